@@ -346,6 +346,48 @@ printf '%s' '[{"hosts":"a:b","tasks":[{"command":"true","register":"r"}]},{"host
 written own HEAD 'play: a b' 'open: a' 'closed: updated:a' 'open: b'
 run run inventory own --resume journal --up b
 [ "$status" -eq 0 ] && pass || fail "what a play registers itself it may read: $(cat out errors)"
+# Who failed or was at work and is mended owes the handlers of the play that goes on: what the attempt before changed is no change any more.
+restarts() { printf '{"hosts":"a:b:d","tasks":[{"command":"true","changed_when":"false","notify":"restart"}],"handlers":[{"name":"restart","command":{"argv":["sh","-c","echo {{ inventory_hostname }} >>ran"]}}]}'; }
+printf '[%s,%s]' "$(restarts)" "$(restarts)" >owed
+
+# row HOST HANDLERS: the line of an updated host on which so many handlers ran
+row() { printf '%s ok=%s changed=%s failed=0 skipped=0 ignored=0 state=updated\n' "$1" $(($2 + 1)) "$2"; }
+# owed_recap PLAY A B D: what is left of the recap of a play that opens a, b and d one by one, on which so many handlers ran
+owed_recap() {
+    printf 'play %s\nopen: a\nopen: b\nopen: d\n' "$1"
+    row a "$2" && row b "$3" && row d "$4"
+    printf 'e ok=0 changed=0 failed=0 skipped=0 ignored=0 state=off\nend finished\n'
+}
+both() { owed_recap "$@" && owed_recap 2 0 0 0; }
+written owed HEAD 'play: a b d' 'open: a' 'closed: failed:a' 'end all-failed'
+cp journal tried
+went 'who failed and is mended runs the handlers of the play that goes on, and not of the next one; nobody else does' 0 "$(both 1 1 0 0)" 'a ' owed --up a
+cp out recap
+cp tried journal
+run plan inventory owed --course --from journal --up a
+[ "$status" -eq 0 ] && [ "$(grep -v '^b' out)" = "$(grep -v ' state=' recap)" ] && pass || fail "a course has the batches and the ends of a run in which somebody owes handlers: $(cat out)"
+run plan inventory owed --from journal --up a
+[ "$status" -eq 0 ] && grep -q '^batch 1: a$' out && pass || fail "a plan says who is first where somebody owes handlers: $(cat out)"
+printf 'next 3\nshow\n' | "$rollout" rehearse inventory owed --from journal --up a >out 2>errors
+[ "$(grep '^advanced:' out)" = "$(printf 'advanced: a\nadvanced: b\nadvanced: d')" ] && grep -q '^end finished' out && pass || fail "a rehearsal opens the batches of a run in which somebody owes handlers: $(cat out errors)"
+written owed HEAD 'play: a b d' 'open: a'
+went 'who was at work does too' 0 "$(both 1 1 0 0)" 'a ' owed --up a
+written owed HEAD 'play: a b d' 'open: a d' 'closed: failed:a halted:d' 'end too-many-failed step=1 failed=1 size=2'
+went 'and who was halted' 0 "$(both 1 1 0 1)" 'a d ' owed --up a,d
+written owed HEAD 'play: a b d' 'open: a' 'closed: failed:a' 'end all-failed' 'resumed: a' 'again: a b d'
+went 'also where that attempt was stopped before the host had its turn' 0 "$(both 1 1 0 0)" 'a ' owed
+written owed HEAD 'play: a b d' 'open: a' 'closed: failed:a' 'end all-failed' 'resumed: a' 'again: a b d' 'open: a' 'closed: updated:a'
+run run inventory owed --resume journal
+[ "$status" -eq 0 ] && [ ! -e ran ] && pass || fail "who is updated owes nothing any more: $(cat ran out)"
+written owed HEAD 'play: a b d'
+went 'who only waited owes nothing, named or not' 0 "$(both 1 0 0 0)" '' owed --up a,b
+written owed HEAD 'play: a b d' 'open: a' 'closed: failed:a' 'end finished'
+went 'nor does who failed in a play that is over' 0 "$(owed_recap 2 0 0 0)" '' owed --up a
+written owed HEAD 'play: a b d' 'open: a' 'closed: failed:a' 'end all-failed'
+run run inventory owed --resume journal
+[ ! -e ran ] && grep -q '^a .* state=failed$' out && pass || fail "who is not mended owes nothing, since nothing is done on it: $(cat ran out)"
+run run inventory owed --up e
+[ "$status" -eq 0 ] && [ ! -e ran ] && pass || fail "without a journal nobody owes anything: $(cat ran out)"
 rm -f ran
 rm journal
 run run inventory one --resume journal

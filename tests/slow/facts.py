@@ -70,7 +70,7 @@ def went_on(inventory, playbook, journal, names, takes_others):
     fleet, plays, targets = accepted(inventory, playbook)
     is_own = (lambda inputs: True) if takes_others else (lambda inputs: is_of(inputs, inventory, playbook))
     rest = rest_of(fleet, plays, targets, names, lambda: read_journal(fleet, journal, is_own))
-    return plays, rest, run_plays(fleet, plays[rest.before :], targets[rest.before :], lambda target: targeted(fleet, target), rest.state, rest.opened)
+    return plays, rest, run_plays(fleet, plays[rest.before :], targets[rest.before :], lambda target: targeted(fleet, target), rest.state, rest.opened, rest.owing)
 
 
 def plays_before(rest):

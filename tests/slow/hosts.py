@@ -6,13 +6,14 @@ from words import Undefined
 
 
 class Host:
-    """A host during a run. `results` lasts from one play into the next."""
+    """A host during a run. `results` lasts from one play into the next; `owes` says whether a play that goes on runs all its handlers on it."""
 
     def __init__(self, fleet, name):
         self.name = name
         self.groups = fleet.groups_of(name)
         self.variables = layered(fleet, name)
         self.results = {}
+        self.owes = False
 
     def value(self, ref):
         """The value of a ref: the host's name, a registered result before a variable, or a field of a registered result."""

@@ -7,18 +7,21 @@ from rules import turned
 from texts import as_text, first_line, listed
 
 
-def run_plays(fleet, plays, targets, counted, state=None, opened=0):
-    """The courses of the plays that were begun, of which the first may begin from another state than that of the inventory. A play that ends otherwise than finished is the last
-    one."""
+def run_plays(fleet, plays, targets, counted, state=None, opened=0, owing=()):
+    """The courses of the plays that were begun, of which the first may begin from another state than that of the inventory, and with hosts that owe its handlers. A play that ends otherwise
+    than finished is the last one."""
     hosts = {host: Host(fleet, host) for host in fleet.hosts}
     state = state or start(fleet, targets[0])
     courses = []
     for play, target in zip(plays, targets):
         if courses:
             state = restart(state, target)
+            owing = owing if turned("debts-end-with-the-play") else ()
         if turned("results-last-into-later-plays"):
             for host in hosts.values():
                 host.results = {}
+        for name, host in hosts.items():
+            host.owes = name in owing
         courses.append(run_play(fleet, play, state, hosts, counted(target), _opened_before(courses) if courses else opened))
         if len(courses) > 1 and turned("counts-of-the-play-alone"):
             _add_counts(courses[-2], courses[-1])

@@ -12,14 +12,15 @@ from rules import turned
 
 @dataclass
 class Rest:
-    """The rest of a run: how many plays stand before it, the state of its first one, and how many batches that opened; who is up by now, and the word with which the first play
-    stands in the journal."""
+    """The rest of a run: how many plays stand before it, the state of its first one, and how many batches that opened; who is up by now, the word with which the first play stands
+    in the journal, and who owes its handlers."""
 
     before: int
     state: dict
     opened: int
     mended: list
     word: str
+    owing: list
 
 
 def is_of(inputs, inventory, playbook):
@@ -49,7 +50,8 @@ def rest_of(fleet, plays, targets, names, read):
     for check in reversed(checks) if turned("resume-needs-before-limits") else checks:
         check()
     opened = standing.opened if goes_on and turned("resume-sizes-begin-anew") else 0
-    return Rest(before, state, opened, named, "again:" if goes_on and not turned("resume-word-of-a-play-that-goes-on") else "play:")
+    word = "again:" if goes_on and not turned("resume-word-of-a-play-that-goes-on") else "play:"
+    return Rest(before, state, opened, named, word, standing.owing)
 
 
 def _begun(state, target, goes_on):

@@ -16,12 +16,13 @@ RESTED = {"waiting": "idle", "held": "idle", "running": "halted"}
 
 
 class Standing:
-    """A run as its journal has it so far. `inputs` are the digests of its first line, `opened` the number of batches that the play has opened."""
+    """A run as its journal has it so far. `inputs` are the digests of its first line, `opened` the number of batches that the play has opened, `owing` those who failed or were at work
+    in the play and were mended behind that."""
 
     def __init__(self, fleet):
         self.fleet = fleet
         self.state = start(fleet, [])
-        self.inputs, self.plays, self.play, self.batch, self.end, self.opened = None, 0, 0, [], None, 0
+        self.inputs, self.plays, self.play, self.batch, self.end, self.opened, self.owing = None, 0, 0, [], None, 0, []
 
     def follow(self, body):
         """Takes an entry; whether it may come here."""
@@ -72,7 +73,7 @@ class Standing:
             return False
         stay = ("failed", "halted", "off")
         self.state = {host: state if state in stay else "idle" for host, state in self.state.items()}
-        self.play, self.end, self.opened = self.play + 1, None, 0
+        self.play, self.end, self.opened, self.owing = self.play + 1, None, 0, []
         return self._move(names, "idle", "waiting")
 
     def _close(self, words):
@@ -103,6 +104,9 @@ class Standing:
         if turned("resume-failed-hosts-stay-failed"):
             rested["failed"] = "idle"
         up = "updated" if turned("resume-mended-hosts-wait") else "idle"
+        tried = {"running", "failed", "halted"} - ({"running", "halted"} if turned("owing-who-was-at-work") else set())
+        kept = [] if turned("owing-lasts-over-stops") else self.owing
+        self.owing = kept + [host for host in mended if self.state[host] in tried or turned("owing-who-was-tried")]
         for host, state in self.state.items():
             is_mended = host in mended and (state in down or turned("resume-mended-updated-hosts-stay"))
             self.state[host] = up if is_mended else rested.get(state, state)
@@ -110,6 +114,8 @@ class Standing:
         comes_next = self.end == "finished" or (self.end is not None and turned("resume-ended-plays-go-on"))
         if not (comes_next and self.play < self.plays) or turned("resume-finished-plays-are-over"):
             self.end = None
+        elif not turned("owing-in-the-same-play"):
+            self.owing = []
         return True
 
     @property

@@ -28,6 +28,8 @@ def track(play, host):
     rows, notified = [], []
     if turned("notifications-end-with-the-play"):
         notified = host.__dict__.setdefault("notified", [])
+    if host.owes:
+        notified += [step.name for step in play.handlers]
     for step in play.tasks:
         if not _taken(step, host, rows, notified):
             if turned("failed-hosts-run-no-handlers"):

@@ -313,7 +313,7 @@ module _ (roll : Roll) (columns : Columns) where
         ends = λ other at. absurd (cc);
       }
 
-  next_on_track : (state : State) (event : Event) → Allowed roll state event → MayTell (gives columns) roll state event → AtWork roll.play state → OnTrack state → OnTrack (next roll state event)
+  pub next_on_track : (state : State) (event : Event) → Allowed roll state event → MayTell (gives columns) roll state event → AtWork roll.play state → OnTrack state → OnTrack (next roll state event)
   next_on_track state (set_aside hosts) may told at_work on =
       record { rows = on.rows; inside = on.inside; goes_on = on.goes_on; ends = on.ends }
   next_on_track state (opened batch) may told at_work on =

@@ -13,6 +13,7 @@ pub mod ColumnFronts
 pub mod OnceFronts
 pub mod GrowthLaws
 pub mod ToldColumns
+pub mod OwingFronts
 pub mod ProgressLaws
 pub mod ListLemmas
 pub mod StateLemmas

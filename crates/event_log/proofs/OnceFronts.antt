@@ -52,7 +52,7 @@ module _ (roll : Roll) (host step : ℕ) where
   Taken state =
       (has_row (state.rows host) step ≡ true) ⊎ ((has_number host state.out ≡ true) × (state.phase ≡ working step))
 
-  has_after : (state : State) (event : Event) → has_row (state.rows host) step ≡ true → has_row ((next roll state event).rows host) step ≡ true
+  pub has_after : (state : State) (event : Event) → has_row (state.rows host) step ≡ true → has_row ((next roll state event).rows host) step ≡ true
   has_after state (set_aside hosts) has = has
   has_after state (opened batch) has = has
   has_after state (claimed other place) has = has

@@ -40,5 +40,5 @@ shows_more registers play vars old new count item begun summary len shows grown 
         let mine : get_or (old ++ summary ∷ []) host s ≡ summary = get_or-append_right old (summary ∷ []) count host s len behind ∙ ap (λ n. get_or (summary ∷ []) n s) first in
         let known : known_at vars host ≡ known_of begun = ap (known_at vars) last
         ∙ ap known_with (slice_get-get_or vars count item within ∙ ap Some (sym here))
-        ∙ sym (kept_known item begun same.variables same.results) in
+        ∙ sym (kept_known item begun same.variables same.results same.owes) in
         subst (λ (k : Known). Shows play k [] s) (sym known) (subst (λ (x : Summary). Shows play (known_of begun) [] x) (sym mine ∙ is) now)

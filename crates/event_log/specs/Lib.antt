@@ -5,6 +5,7 @@ pub mod Logs
 pub mod Laws
 pub mod Told
 pub mod Once
+pub mod Owing
 pub mod Columns
 pub mod Changes
 pub mod Growth

@@ -39,7 +39,7 @@ phase_by play step failures size =
 -- of a number that no host has nothing is known
 abbrev pub nobody : Known
 nobody =
-    record { variables = record { name = []; groups = []; variable = λ name. None }; results = λ name. None }
+    record { variables = record { name = []; groups = []; variable = λ name. None }; results = λ name. None; owes = false }
 
 abbrev pub known_with : Option Vars → Known
 known_with None = nobody

@@ -2,6 +2,7 @@
 ghost use Rattle.event_log.specs.Changes.{BatchesAreOnTrack, EventsLeaveOtherHosts, FailedFromTheFailingRowOn, RowsLast};
 ghost use Rattle.event_log.specs.Columns.{BatchesEndByColumns, LogsHaveColumns};
 ghost use Rattle.event_log.specs.Once.{NoHostIsClaimedTwice, NoHostReportsTwice, ReportsFollowClaims};
+ghost use Rattle.event_log.specs.Owing.{OwingHostsReportEachStep};
 ghost use Rattle.event_log.specs.Progress.{DeadBatchesEnd, OpenBatchesGoOn};
 ghost use Rattle.event_log.specs.Laws.{ForksBoundTheClaims, LegalLogsAreSafe, LegalLogsRestBetweenBatches, RowsAreFew};
 
@@ -54,6 +55,11 @@ pub fn no_host_reports_a_step_twice()
 /// At every front at most as many reports of a host's step have come as claims of it: none comes without a claim before it.
 pub fn reports_follow_claims()
     ensures { ReportsFollowClaims }
+{}
+
+/// A host that owes the handlers of the play, and that the play updates, reports each step of it once, each handler too.
+pub fn owing_hosts_report_each_step()
+    ensures { OwingHostsReportEachStep }
 {}
 
 /// What an event isn't about it leaves: a host that failed, was halted or is updated stays so after its batch.

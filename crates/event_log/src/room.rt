@@ -1,5 +1,6 @@
 //! Room for what is left of each host when a roll is over.
 ghost use Rattle.std.specs.Prelude.{◌≡◌, ◌≤◌, ◌<◌, ◌++◌, ◌∷◌, [], IfOk, length, map, vec_capacity, vec_len};
+ghost use Rattle.host_track.specs.Hosts.{known_of, without_debt};
 
 use host_track::{Counts, Summary};
 use host_vars::Vars;
@@ -24,11 +25,11 @@ impl Room {
         Ok(Room { vars, counts })
     }
 
-    /// The variables of each host and its counts, in the order of the hosts.
+    /// The variables of each host, which owes nothing any more, and its counts, in the order of the hosts.
     pub(crate) fn filled(self, summaries: Vec<Summary>) -> (Vec<Vars>, Vec<Counts>)
         requires vars { length summaries.items ≤ vec_capacity self.vars }
         requires counts { length summaries.items ≤ vec_capacity self.counts }
-        ensures vars { result.0.items ≡ map (λ summary. summary.vars) summaries.items }
+        ensures vars { map known_of result.0.items ≡ map (λ summary. without_debt (known_of summary.vars)) summaries.items }
         ensures counts { result.1.items ≡ map (λ summary. summary.counts) summaries.items }
     {
         let Room {

@@ -50,7 +50,7 @@ const KEYS: &[Row] = &[
     ),
     (
         "meta",
-        "for flush_handlers, write the handler as a task there, with \"when\": \"install is changed\"",
+        "for flush_handlers, write what comes behind it as handlers too; they run in the order in which they are written",
     ),
     (
         "block",

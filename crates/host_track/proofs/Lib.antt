@@ -2,3 +2,4 @@ pub mod CountLemmas
 pub mod JudgingLemmas
 pub mod TrackLaws
 pub mod SummaryLemmas
+pub mod OwingLaws

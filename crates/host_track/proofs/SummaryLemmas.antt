@@ -1,5 +1,5 @@
 -- What a summary shows, as rows come.
-use Rattle.std.proofs.Common.{◌≡◌, ℕ, suc, ◌+◌, ◌-◌, ◌<◌, ◌≤◌, nat_lt, Bool, true, false, not, ◌&&◌, inl, inr, lt-ltb, ◌||◌, cond, Option, Some, None}
+use Rattle.std.proofs.Common.{◌≡◌, ℕ, suc, ◌+◌, ◌-◌, ◌<◌, ◌≤◌, nat_lt, Bool, true, false, not, ◌&&◌, inl, inr, lt-ltb, ◌||◌, cond, Option, Some}
 use Rattle.std.proofs.Common.{List, [], ◌∷◌, ◌++◌, length, refl, sym, ap, ◌∙◌, subst, arith, length-append}
 use Rattle.std.proofs.Math.Path.{fun_ext}
 use Rattle.std.proofs.lemmas.Bool.{cases_lt}
@@ -19,27 +19,27 @@ use Rattle.host_track.specs.Endings.{Ending, table_row}
 use Rattle.host_track.specs.Judging.{register_of, registered_row, finding_of}
 use Rattle.host_track.specs.Counting.{is_failed, does_notify, counts_of}
 use Rattle.host_track.specs.declared.judged.Judged.{Judged}
-use Rattle.host_track.specs.declared.counts.Counts.{Counts}
 use Rattle.host_track.specs.declared.finding.Finding.{Finding}
 use Rattle.host_track.specs.Tracks.{Entry, is_due, has_failed, is_notified, notifies, known_after, known_with, step_at, entry_of, judgements, counts_in, handlers_of}
 use Rattle.host_track.specs.Summaries.{Shows, IsCopyFor, mark_at}
 use Rattle.host_track.specs.declared.summary.Summary.{Summary}
 
 -- two hosts of which the same is known
-pub same_known : (a b : Known) → a.variables ≡ b.variables → ((name : Name) → a.results name ≡ b.results name) → a ≡ b
-same_known a b variables results =
-    ap (λ (v : HostView). let known : Known = record { variables = v; results = a.results } in known) variables
-    ∙ ap (λ (r : Name → Option Row). let known : Known = record { variables = b.variables; results = r } in known) (fun_ext results)
+pub same_known : (a b : Known) → a.variables ≡ b.variables → ((name : Name) → a.results name ≡ b.results name) → a.owes ≡ b.owes → a ≡ b
+same_known a b variables results owes =
+    ap (λ (v : HostView). let known : Known = record a { variables = v } in known) variables
+    ∙ ap (λ (r : Name → Option Row). let known : Known = record { variables = b.variables; results = r; owes = a.owes } in known) (fun_ext results)
+    ∙ ap (λ (o : Bool). let known : Known = record b { owes = o } in known) owes
 
-pub kept_known : (old new : Vars) → variables_of new ≡ variables_of old → ((name : Name) → result_in new name ≡ result_in old name) → known_of new ≡ known_of old
-kept_known old new variables results =
-    same_known (known_of new) (known_of old) variables results
+pub kept_known : (old new : Vars) → variables_of new ≡ variables_of old → ((name : Name) → result_in new name ≡ result_in old name) → new.owes ≡ old.owes → known_of new ≡ known_of old
+kept_known old new variables results owes =
+    same_known (known_of new) (known_of old) variables results owes
 
 pub laid_known : (old new : Vars) (name : Option Name) (row : Row) → variables_of new ≡ variables_of old
-    → ((other : Name) → result_in new other ≡ cond (is_called name other) (Some row) (result_in old other))
+    → ((other : Name) → result_in new other ≡ cond (is_called name other) (Some row) (result_in old other)) → new.owes ≡ old.owes
     → known_of new ≡ with_result name row (known_of old)
-laid_known old new name row variables results =
-    same_known (known_of new) (with_result name row (known_of old)) variables results
+laid_known old new name row variables results owes =
+    same_known (known_of new) (with_result name row (known_of old)) variables results owes
 
 or_false : (b : Bool) → (b || false) ≡ b
 or_false true = refl
@@ -70,7 +70,7 @@ pub record Follows (known : Known) (step : Step) (ending : Ending) (finding : Fi
   pub failed : new.failed ≡ (old.failed || is_failed finding.judged)
   pub handlers : length new.notified.items ≡ length old.notified.items
   pub notified : (handler : ℕ) → handler < length old.notified.items
-      → mark_at new.notified.items handler ≡ (mark_at old.notified.items handler || (does_notify finding.judged && has_number handler step.notify.items))
+      → mark_at new.notified.items handler ≡ (mark_at old.notified.items handler || (known.owes || (does_notify finding.judged && has_number handler step.notify.items)))
   pub counts : (rows : List Judged) → length rows < 4294967295 → old.counts ≡ counts_of rows → new.counts ≡ counts_of (rows ++ finding.judged ∷ [])
 
 module _ (play : Play) (start : Known) (entries : List Entry) (place : ℕ) (step : Step) (ending : Ending) (old new : Summary)
@@ -90,7 +90,7 @@ module _ (play : Play) (start : Known) (entries : List Entry) (place : ℕ) (ste
   notified_now : (handler : ℕ) → handler < length new.notified.items → mark_at new.notified.items handler ≡ is_notified play (entries ++ entry ∷ []) handler
   notified_now handler below =
       let within : handler < length old.notified.items = subst (λ n. handler < n) follows.handlers below in
-      let named : Option Step → Bool = λ s. does_notify entry.finding.judged && has_number handler (handlers_of s) in
+      let named : Option Step → Bool = λ s. entry.owes || (does_notify entry.finding.judged && has_number handler (handlers_of s)) in
       let one_more : is_notified play (entries ++ entry ∷ []) handler ≡ (is_notified play entries handler || named (step_at play place)) = any_with (notifies play handler) entries entry in
       follows.notified handler within ∙ ap (λ b. b || named (Some step)) (shown.notified handler within) ∙ ap (λ (s : Option Step). is_notified play entries handler || named s) (sym at) ∙ sym one_more
 
@@ -158,20 +158,21 @@ due_shown play start entries summary place within shown =
 pub registered_known : (old new : Vars) (step : Step) (name : Name) (ending : Ending) (finding : Finding) (copy : Option Registered)
     (row found : Registered) → register_of step ≡ Some name → copy ≡ Some row → IsCopyFor (register_of step) ending copy → row_of found
     ≡ record (row_of row) { changed = finding.changed; failed = finding.failed } → variables_of new ≡ variables_of old
-    → ((other : Name) → result_in new other ≡ cond (same_name name other) (Some (row_of found)) (result_in old other)) → known_of new
-    ≡ with_result (register_of step) (registered_row ending finding) (known_of old)
-registered_known old new step name ending finding copy row found named here is made variables results =
+    → ((other : Name) → result_in new other ≡ cond (same_name name other) (Some (row_of found)) (result_in old other)) → new.owes ≡ old.owes
+    → known_of new ≡ with_result (register_of step) (registered_row ending finding) (known_of old)
+registered_known old new step name ending finding copy row found named here is made variables results owes =
     let there : IsCopyFor (Some name) ending copy = subst (λ (n : Option Name). IsCopyFor n ending copy) named is in
     let same : row_of row ≡ table_row ending = subst (λ (o : Option Registered). IsCopyFor (Some name) ending o) here there in
     let whole : row_of found ≡ registered_row ending finding = made ∙ ap (λ (r : Row). let changed : Row = record r { changed = finding.changed; failed = finding.failed } in changed) same in
-    laid_known old new (Some name) (row_of found) variables results ∙ ap (λ (r : Row). with_result (Some name) r (known_of old)) whole
+    laid_known old new (Some name) (row_of found) variables results owes ∙ ap (λ (r : Row). with_result (Some name) r (known_of old)) whole
     ∙ ap (λ (n : Option Name). with_result n (registered_row ending finding) (known_of old)) (sym named)
 
 -- marks that were set through a slice
-pub marks_follow : (old new marks : List Bool) (notifies says : Bool) (handlers named : List ℕ) → marks ≡ old → handlers ≡ named → notifies ≡ says
-    → ((handler : ℕ) → handler < length marks → mark_at new handler ≡ (mark_at marks handler || (notifies && has_number handler handlers)))
-    → (handler : ℕ) → handler < length old → mark_at new handler ≡ (mark_at old handler || (says && has_number handler named))
-marks_follow old new marks notifies says handlers named same_marks same_handlers same set handler below =
-    let after : List Bool → Bool → List ℕ → Bool = λ before told list. mark_at before handler || (told && has_number handler list) in
+pub marks_follow : (old new marks : List Bool) (owes owing notifies says : Bool) (handlers named : List ℕ) → marks ≡ old → handlers ≡ named → owes ≡ owing → notifies ≡ says
+    → ((handler : ℕ) → handler < length marks → mark_at new handler ≡ (mark_at marks handler || (owes || (notifies && has_number handler handlers))))
+    → (handler : ℕ) → handler < length old → mark_at new handler ≡ (mark_at old handler || (owing || (says && has_number handler named)))
+marks_follow old new marks owes owing notifies says handlers named same_marks same_handlers same_debt same set handler below =
+    let after : List Bool → Bool → Bool → List ℕ → Bool = λ before all told list. mark_at before handler || (all || (told && has_number handler list)) in
     let within : handler < length marks = subst (λ (m : List Bool). handler < length m) (sym same_marks) below in
-    set handler within ∙ ap (λ (m : List Bool). after m notifies handlers) same_marks ∙ ap (after old notifies) same_handlers ∙ ap (λ b. after old b named) same
+    set handler within ∙ ap (λ (m : List Bool). after m owes notifies handlers) same_marks ∙ ap (after old owes notifies) same_handlers
+    ∙ ap (λ b. after old b notifies named) same_debt ∙ ap (λ b. after old owing b named) same

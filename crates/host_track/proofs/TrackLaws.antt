@@ -2,18 +2,16 @@
 use Rattle.std.proofs.Common.{◌≡◌, ℕ, zero, suc, ◌+◌, ◌-◌, ◌<◌, ◌≤◌, nat_lt, Bool, true, false, not, ◌&&◌, ◌||◌, IsTrue, Option, Some, None, List, []}
 use Rattle.std.proofs.Common.{◌∷◌, ◌++◌, length, get_or, refl, sym, ap, ◌∙◌, subst, arith, append_assoc, add-suc, add-zero, le-ltb}
 use Rattle.std.specs.Prelude.{All, AllPairs, if◌then◌else◌}
-use Rattle.std.specs.List.{list_any}
 use Rattle.std.proofs.lemmas.List.{append-nil}
 use Rattle.std.proofs.lemmas.List.Elements.{All-push, All-nil, All-weaker, All-get_or}
 use Rattle.std.proofs.lemmas.List.Quantifiers.{all_pairs_push}
-use Rattle.std.proofs.lemmas.List.Folds.{list_any-append}
 use Rattle.play_model.specs.declared.play.Play.{Play}
 use Rattle.play_model.specs.declared.step.Step.{Step}
 use Rattle.host_track.specs.Hosts.{Known}
 use Rattle.host_track.specs.Endings.{Ending}
 use Rattle.host_track.specs.Counting.{is_failed}
-use Rattle.host_track.specs.Tracks.{Entry, Column, track, is_due, is_notified, has_failed, row_if_due, row_at, entry_of, known_after, step_at}
-use Rattle.host_track.specs.Laws.{DueStepAddsItsRow, OtherStepAddsNone, GrowsByAppending, AgreeWhereDue, AgreeingColumnsGiveOneTrack, StepsRise}
+use Rattle.host_track.specs.Tracks.{Entry, Column, track, is_due, is_notified, has_failed, row_if_due, row_at, known_after, step_at}
+use Rattle.host_track.specs.Laws.{DueStepAddsItsRow, OtherStepAddsNone, GrowsByAppending, AgreeingColumnsGiveOneTrack, StepsRise}
 use Rattle.host_track.specs.Laws.{EachRowIsDue, FailedRowIsTheLast, HandlersRunWhereNotified}
 
 same_if : {X : Type 0} (due : Bool) → (a b : List X) → (IsTrue due → a ≡ b) → (if due then a else []) ≡ (if due then b else [])

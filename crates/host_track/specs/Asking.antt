@@ -1,5 +1,5 @@
 -- What a step asks of a host before a program runs.
-use Rattle.std.specs.Prelude.{ℕ, Bool, true, false, nat_lt, Option, Some, None, Result, Ok, Err, List, [], ◌∷◌, length, map, string_bytes, if◌then◌else◌}
+use Rattle.std.specs.Prelude.{ℕ, true, false, nat_lt, Option, Some, None, Ok, Err, List, [], ◌∷◌, length, map, string_bytes, if◌then◌else◌}
 use Rattle.cond.specs.Meaning.{Environment, Verdict}
 use Rattle.text_parts.specs.Words.{parts_of}
 use Rattle.text_parts.specs.Renders.{Values, first_undefined, rendered}

@@ -13,4 +13,8 @@ is_called (Some name) other = same_name name other
 -- with a result under the name, if there is one, over what stood there
 abbrev pub with_result : Option Name → Row → Known → Known
 with_result name row known =
-    record { variables = known.variables; results = λ other. cond (is_called name other) (Some row) (known.results other) }
+    record known { results = λ other. cond (is_called name other) (Some row) (known.results other) }
+
+-- with the play it is over what the host owed
+abbrev pub without_debt : Known → Known
+without_debt known = record known { owes = false }

@@ -1,11 +1,12 @@
 -- Laws of tracks.
-use Rattle.std.specs.Prelude.{◌≡◌, ℕ, suc, ◌+◌, ◌-◌, ◌<◌, ◌≤◌, IsTrue, IsFalse, Some, List, [], ◌∷◌, ◌++◌, All, AllPairs}
+use Rattle.std.specs.Prelude.{◌≡◌, ℕ, suc, ◌+◌, ◌-◌, ◌<◌, ◌≤◌, nat_eq, true, false, IsTrue, IsFalse, Some, List, [], ◌∷◌, ◌++◌, length, All, AllPairs}
+use Rattle.std.specs.List.{list_any}
 use Rattle.play_model.specs.declared.play.Play.{Play}
 use Rattle.host_track.specs.Hosts.{Known}
 use Rattle.host_track.specs.Counting.{is_failed}
 use Rattle.play_model.specs.declared.step.Step.{Step}
 use Rattle.host_track.specs.Asking.{asks, end_of}
-use Rattle.host_track.specs.Tracks.{Entry, Column, track, is_due, is_notified, known_after, step_at, entry_of}
+use Rattle.host_track.specs.Tracks.{Entry, Column, track, has_failed, is_due, is_notified, known_after, step_at, entry_of}
 
 -- what is known of the host before a step
 abbrev pub known_before : Play → Known → Column → ℕ → Known
@@ -58,3 +59,9 @@ abbrev pub HandlersRunWhereNotified : Type 0
 HandlersRunWhereNotified =
     (play : Play) (known : Known) (column : Column) (steps : ℕ) (before after : List Entry) (entry : Entry) → track play known column steps
     ≡ before ++ entry ∷ after → play.tasks ≤ entry.step → IsTrue (is_notified play before (entry.step - play.tasks))
+
+-- a host that owes has a row of each step, handlers too, unless one of its rows has failed
+abbrev pub OwingHostsRunEachStep : Type 0
+OwingHostsRunEachStep =
+    (play : Play) (known : Known) (column : Column) (steps step : ℕ) → IsTrue known.owes → steps ≤ length play.steps.items
+    → has_failed (track play known column steps) ≡ false → step < steps → list_any (λ (entry : Entry). nat_eq entry.step step) (track play known column steps) ≡ true

@@ -11,7 +11,7 @@ use Rattle.play_model.specs.declared.play.Play.{Play}
 use Rattle.host_track.specs.Hosts.{Known, known_of, is_called}
 use Rattle.host_track.specs.Endings.{Ending, table_row}
 use Rattle.host_track.specs.Judging.{register_of}
-use Rattle.host_track.specs.Tracks.{Entry, step_at, known_after, has_failed, is_notified, counts_in}
+use Rattle.host_track.specs.Tracks.{Entry, known_after, has_failed, is_notified, counts_in}
 use Rattle.host_track.specs.declared.summary.Summary.{Summary}
 
 abbrev pub mark_at : List Bool → ℕ → Bool

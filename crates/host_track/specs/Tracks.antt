@@ -1,5 +1,5 @@
 -- What one host does in a play, by itself. Steps are counted from 0, handlers from 0 behind the tasks.
-use Rattle.std.specs.Prelude.{◌≡◌, ℕ, zero, suc, ◌-◌, nat_lt, Bool, not, ◌&&◌, ◌||◌, Option, Some, None, List, [], ◌∷◌, ◌++◌, length, map, slice_get, if◌then◌else◌}
+use Rattle.std.specs.Prelude.{ℕ, zero, suc, ◌-◌, nat_lt, Bool, not, ◌&&◌, ◌||◌, Option, Some, None, List, [], ◌∷◌, ◌++◌, length, map, slice_get, if◌then◌else◌}
 use Rattle.std.specs.List.{list_any}
 use Rattle.fleet_numbers.specs.NumberLists.{has_number}
 use Rattle.play_model.specs.declared.step.Step.{Step}
@@ -13,11 +13,12 @@ use Rattle.host_track.specs.declared.judged.Judged.{Judged}
 use Rattle.host_track.specs.declared.counts.Counts.{Counts}
 use Rattle.host_track.specs.Asking.{asks, end_of}
 
--- a row of a track: the step, how it ended, and what was found of that
+-- a row of a track: the step, how it ended, what was found of that, and whether its host owes the play's handlers
 pub record Entry : Type 0 where
   pub step : ℕ
   pub ending : Ending
   pub finding : Finding
+  pub owes : Bool
 
 -- how the program of each step ends, if it is run
 abbrev pub Column : Type 0
@@ -31,10 +32,10 @@ abbrev pub handlers_of : Option Step → List ℕ
 handlers_of None = []
 handlers_of (Some step) = step.notify.items
 
--- a row judged ok and changed notifies the handlers that its step names
+-- each row of a host that owes notifies all handlers, whatever it says; another, where it is judged ok and changed, those that its step names
 abbrev pub notifies : Play → ℕ → Entry → Bool
 notifies play handler entry =
-    does_notify entry.finding.judged && has_number handler (handlers_of (step_at play entry.step))
+    entry.owes || (does_notify entry.finding.judged && has_number handler (handlers_of (step_at play entry.step)))
 
 abbrev pub is_notified : Play → List Entry → ℕ → Bool
 is_notified play entries handler = list_any (notifies play handler) entries
@@ -62,7 +63,7 @@ known_after play known (entry ∷ later) =
 -- the row of a step that ended so
 abbrev pub entry_of : Known → Step → ℕ → Ending → Entry
 entry_of known step place ending =
-    record { step = place; ending = ending; finding = finding_of known step ending }
+    record { step = place; ending = ending; finding = finding_of known step ending; owes = known.owes }
 
 -- the row of a step whose program, if it is run, ends so
 abbrev pub row_at : Known → Option Step → ℕ → Ending → List Entry

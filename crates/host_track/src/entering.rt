@@ -1,5 +1,5 @@
 //! What a row changes on its host.
-ghost use Rattle.std.specs.Prelude.{◌≡◌, ℕ, ◌<◌, ◌&&◌, ◌||◌, IfOk, OnOk, length};
+ghost use Rattle.std.specs.Prelude.{◌≡◌, ℕ, ◌<◌, ◌&&◌, ◌||◌, true, IfOk, OnOk, length};
 ghost use Rattle.fleet_numbers.specs.NumberLists.{has_number};
 ghost use Rattle.play_model.specs.Results.{row_of};
 ghost use Rattle.host_track.specs.Hosts.{known_of, with_result};
@@ -66,14 +66,22 @@ fn found_row(row: Registered, finding: Finding) -> Registered
     }
 }
 
-/// Marks the handlers, where the row notifies them.
-pub(crate) fn notify(marks: &mut [bool], notifies: bool, handlers: &[usize])
+/// Marks the handlers that the row notifies: all where its host owes them, and else these.
+pub(crate) fn notify(marks: &mut [bool], owes: bool, notifies: bool, handlers: &[usize])
     ensures { (handler : ℕ) → handler < length marks.old
-        → mark_at marks.new handler ≡ (mark_at marks.old handler || (notifies && has_number handler handlers.now)) }
+        → mark_at marks.new handler ≡ (mark_at marks.old handler || (owes || (notifies && has_number handler handlers.now))) }
 {
-    if notifies {
+    if owes {
+        mark_all(marks);
+    } else if notifies {
         mark(marks, handlers);
     }
+}
+
+fn mark_all(marks: &mut [bool])
+    ensures { (handler : ℕ) → handler < length marks.old → mark_at marks.new handler ≡ true }
+{
+    marks.fill(true);
 }
 
 fn mark(marks: &mut [bool], handlers: &[usize])

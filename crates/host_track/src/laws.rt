@@ -1,5 +1,5 @@
 //! Laws of tracks.
-ghost use Rattle.host_track.specs.Laws.{DueStepAddsItsRow, OtherStepAddsNone, GrowsByAppending, AgreeingColumnsGiveOneTrack, StepsRise, EachRowIsDue, FailedRowIsTheLast, HandlersRunWhereNotified};
+ghost use Rattle.host_track.specs.Laws.{DueStepAddsItsRow, OtherStepAddsNone, GrowsByAppending, AgreeingColumnsGiveOneTrack, StepsRise, EachRowIsDue, FailedRowIsTheLast, HandlersRunWhereNotified, OwingHostsRunEachStep};
 
 /// A step that is due adds its row: as it settles itself, or as the column says.
 #[tactic(auto, using(crate::proofs::TrackLaws::adds_row))]
@@ -46,4 +46,10 @@ pub fn a_failed_row_is_the_last()
 #[tactic(auto, using(crate::proofs::TrackLaws::notified))]
 pub fn a_handler_runs_where_it_was_notified()
     ensures { HandlersRunWhereNotified }
+{}
+
+/// A host that owes runs each handler of the play, unless it fails before.
+#[tactic(auto, using(crate::proofs::OwingLaws::runs_each))]
+pub fn an_owing_host_runs_each_step()
+    ensures { OwingHostsRunEachStep }
 {}

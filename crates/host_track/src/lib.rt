@@ -27,8 +27,8 @@ pub use judged::Judged;
 pub use judging::judge;
 pub use laws::{
     a_due_step_adds_its_row, a_failed_row_is_the_last, a_handler_runs_where_it_was_notified,
-    a_track_grows_by_appending, another_step_adds_none, at_most_one_row_a_step,
-    columns_that_agree_where_due_give_one_track, each_row_is_due,
+    a_track_grows_by_appending, an_owing_host_runs_each_step, another_step_adds_none,
+    at_most_one_row_a_step, columns_that_agree_where_due_give_one_track, each_row_is_due,
 };
 pub use outcome::Outcome;
 pub use place::step_at;

@@ -2,7 +2,7 @@
 ghost use Rattle.std.specs.Prelude.{◌≡◌, ℕ, ◌-◌, ◌<◌, nat_lt, not, ◌&&◌, ◌||◌, ◌∷◌, [], ◌++◌, List, Some, IfOk, OnOk, length};
 ghost use Rattle.play_model.specs.Plays.{HasPlainWords};
 ghost use Rattle.play_model.specs.declared.play.Play as plays;
-ghost use Rattle.host_track.specs.Hosts.{Known, known_of};
+ghost use Rattle.host_track.specs.Hosts.{Known, known_of, without_debt};
 ghost use Rattle.host_track.specs.Endings.{ending_of};
 ghost use Rattle.host_track.specs.Judging.{register_of, finding_of};
 ghost use Rattle.host_track.specs.Asking.{asks, asked_as};
@@ -97,7 +97,12 @@ impl Summary {
     {
         let finding = judge(step, &self.vars, outcome);
         register(&mut self.vars, step, finding, copy);
-        notify(&mut self.notified, finding.judged.notifies(), &step.notify);
+        notify(
+            &mut self.notified,
+            self.vars.owes(),
+            finding.judged.notifies(),
+            &step.notify,
+        );
         self.failed = either(self.failed, finding.judged.is_failed());
         self.counts.add(finding.judged);
         finding
@@ -126,11 +131,18 @@ impl Summary {
         &self.vars
     }
 
-    /// The host's variables with its results, and the counts.
+    /// The host's variables with its results, and the counts. With the play it is over what the host owed.
     pub fn into_parts(self) -> (Vars, Counts)
-        ensures vars { result.0 ≡ self.vars }
+        ensures vars { known_of result.0 ≡ without_debt (known_of self.vars) }
         ensures counts { result.1 ≡ self.counts }
     {
-        (self.vars, self.counts)
+        let Summary {
+            mut vars,
+            notified: _,
+            failed: _,
+            counts,
+        } = self;
+        vars.set_debt(false);
+        (vars, counts)
     }
 }

@@ -37,30 +37,34 @@ field_in_row row Changed = Some (Truth row.changed)
 field_in_row row Failed = Some (Truth row.failed)
 field_in_row row Skipped = Some (Truth row.skipped)
 
--- what is known of a host: its name, groups and variables, and the results that are registered
+-- what is known of a host: its name, groups and variables, the results that are registered, and whether it owes the handlers of the play that it begins
 pub record Known : Type 0 where
   pub variables : HostView
   pub results : Name → Option Row
+  pub owes : Bool
 
 abbrev pub known_of : Vars → Known
-known_of vars = record { variables = variables_of vars; results = result_in vars }
+known_of vars = record { variables = variables_of vars; results = result_in vars; owes = vars.owes }
 
 abbrev pub field_known : Known → Name → Field → Option Scalar
 field_known known name field = option_and_then (λ row. field_in_row row field) (known.results name)
 
--- the two have the same name, groups, variables and results
+-- the two have the same name, groups, variables and results, and owe the same
 pub record IsSameHost (one other : Vars) : Type 0 where
   pub variables : variables_of one ≡ variables_of other
   pub results : (name : Name) → result_in one name ≡ result_in other name
   pub places : (name : Name) → IsTrue (is_some (shared_number other.results name)) → IsTrue (has_place_in one name)
+  pub owes : one.owes ≡ other.owes
 
--- the host as it begins a play with these registers: it has its variables and results, and a place for each register
+-- the host as it begins a play with these registers: it has its variables and results, owes what it owed, and has a place for each register
 pub record BeginsPlay (registers : Registers) (begun vars : Vars) : Type 0 where
   pub variables : variables_of begun ≡ variables_of vars
   pub places : (name : Name) → IsTrue (is_register registers name) → IsTrue (has_place_in begun name)
   pub results : (name : Name) → result_in begun name ≡ result_in vars name
+  pub owes : begun.owes ≡ vars.owes
 
--- no name has a place or a result
+-- no name has a place or a result, and it owes no handler
 pub record HasNoResult (vars : Vars) : Type 0 where
   pub places : (name : Name) → has_place_in vars name ≡ false
   pub results : (name : Name) → result_in vars name ≡ None
+  pub owes : vars.owes ≡ false

@@ -35,6 +35,7 @@ pub fn layered<A: Allocator>(
     Ok(Vars {
         variables: Arc::new(alloc, variables)?,
         results: Results::new(alloc),
+        owes: false,
     })
 }
 
@@ -73,5 +74,6 @@ fn without_result(alloc: Global, host: &Arc<HostVariables>) -> Result<Vars, Allo
     Ok(Vars {
         variables: Arc::try_clone(host)?,
         results: Results::new(alloc),
+        owes: false,
     })
 }

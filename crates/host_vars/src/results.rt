@@ -19,6 +19,7 @@ impl Vars {
         ensures refused { OnErr result ((other : Name) → has_place_in self.new other ≡ has_place_in self.old other) }
         ensures results { (other : Name) → result_in self.new other ≡ result_in self.old other }
         ensures variables { variables_of self.new ≡ variables_of self.old }
+        ensures owes { self.new.owes ≡ self.old.owes }
     {
         self.results.reserve(alloc, name)
     }
@@ -30,28 +31,31 @@ impl Vars {
         ensures results { (other : Name) → result_in self.new other
             ≡ cond (same_name name.now other) (Some (row_of registered)) (result_in self.old other) }
         ensures variables { variables_of self.new ≡ variables_of self.old }
+        ensures owes { self.new.owes ≡ self.old.owes }
     {
         self.results.register(name, registered);
     }
 
-    /// The same host: its variables, which are shared and not copied, and a copy of each result. It fails for want of memory alone.
+    /// The same host: its variables, which are shared and not copied, a copy of each result, and what it owes. It fails for want of memory alone.
     pub fn copy(&self, alloc: Global) -> Result<Vars, AllocError>
         ensures { IfOk result (λ copy. IsSameHost copy self.now) }
     {
         Ok(Vars {
             variables: Arc::try_clone(&self.variables)?,
             results: self.results.copy(alloc)?,
+            owes: self.owes,
         })
     }
 
     /// The host as it begins a play with these registers: its variables, which are shared and not copied, a copy of each result, and a
-    /// place for each register. It fails for want of memory alone.
+    /// place for each register; and it owes what it owed. It fails for want of memory alone.
     pub fn begin_play(&self, alloc: Global, registers: &Arc<Registers>) -> Result<Vars, AllocError>
         ensures { IfOk result (λ begun. BeginsPlay (arc_value registers.now) begun self.now) }
     {
         Ok(Vars {
             variables: Arc::try_clone(&self.variables)?,
             results: self.results.begin_play(alloc, registers)?,
+            owes: self.owes,
         })
     }
 }

@@ -39,6 +39,7 @@ shown_journal journal = record {
   statuses = journal.statuses.items;
   open_batch = host_numbers journal.open_batch.items;
   end = journal.end;
+  owing = host_numbers journal.owing.items;
 }
 
 abbrev pub lent_outcome : List Status → HostId → Outcome

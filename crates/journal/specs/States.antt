@@ -1,6 +1,6 @@
 -- Where a run stands behind entries of its journal.
 use Rattle.std.specs.Prelude.{ℕ, suc, Bool, true, false, ◌&&◌, ◌||◌, ◌==◌, nat_le, nat_lt, not}
-use Rattle.std.specs.Prelude.{Option, None, Some, is_none, is_some, option_map, option_and_then, List, [], ◌∷◌, length, map, slice_set, if◌then◌else◌}
+use Rattle.std.specs.Prelude.{Option, None, Some, is_none, is_some, option_map, option_and_then, List, [], ◌∷◌, ◌++◌, filter, length, map, slice_set, if◌then◌else◌}
 use Rattle.fleet_numbers.specs.NumberLists.{are_below}
 use Rattle.domains.specs.FleetViews.{FleetView}
 use Rattle.fleet_states.specs.declared.status.Status.{Status}
@@ -13,17 +13,18 @@ use Rattle.play_course.specs.declared.end.End.TheVariants as ending
 use Rattle.journal.specs.Entries.{Entry, Head, Outcome, again, begun, closed, ended, held, is_digest, opened, play, resumed}
 
 -- which run it is; which of its plays has begun last, from 1, and none with 0; the statuses of the hosts; the batch that is open, and nobody where none is;
--- how the play has ended, if it has
+-- how the play has ended, if it has; who has been mended since the play began, behind work of it
 pub record JournalState : Type 0 where
   pub head : Option Head
   pub play : ℕ
   pub statuses : List Status
   pub open_batch : List ℕ
   pub end : Option End
+  pub owing : List ℕ
 
 -- before the first entry
 abbrev pub start : FleetView → JournalState
-start fleet = record { head = None; play = 0; statuses = start_statuses fleet []; open_batch = []; end = None }
+start fleet = record { head = None; play = 0; statuses = start_statuses fleet []; open_batch = []; end = None; owing = [] }
 
 abbrev pub is_idle : Status → Bool
 is_idle Idle = true
@@ -160,14 +161,29 @@ is_one_more state = is_finished state.end && nat_lt state.play (plays_of state.h
 abbrev pub resumed_end : JournalState → Option End
 resumed_end state = if is_one_more state then state.end else None
 
+-- the host has failed, or was at work
+abbrev pub is_tried : Status → Bool
+is_tried Idle = false
+is_tried Waiting = false
+is_tried Running = true
+is_tried Updated = false
+is_tried Failed = true
+is_tried Halted = true
+is_tried Off = false
+is_tried Held = false
+
+-- who owes the handlers of the play that goes on: those of these that have failed or were at work, and who owed them before; behind a finished play nobody does
+abbrev pub owing_with : JournalState → List ℕ → List ℕ
+owing_with state hosts = if is_one_more state then [] else state.owing ++ filter (λ host. is_tried (status_at state.statuses host)) hosts
+
 abbrev pub resumes : JournalState → List ℕ → JournalState
-resumes state hosts = record state { statuses = rested hosts state.statuses; open_batch = []; end = resumed_end state }
+resumes state hosts = record state { statuses = rested hosts state.statuses; open_batch = []; end = resumed_end state; owing = owing_with state hosts }
 
 abbrev pub begins : JournalState → Head → JournalState
 begins state head = record state { head = Some head }
 
 abbrev pub plays : JournalState → List Status → JournalState
-plays state statuses = record state { play = suc state.play; statuses = statuses; end = None }
+plays state statuses = record state { play = suc state.play; statuses = statuses; end = None; owing = [] }
 
 abbrev pub holds : JournalState → List Status → JournalState
 holds state statuses = record state { statuses = statuses }

@@ -138,6 +138,7 @@ fn play<'t>(
     journal.play += 1;
     journal.statuses = statuses;
     journal.end = None;
+    journal.owing.clear();
     Ok(Some(journal))
 }
 
@@ -190,6 +191,7 @@ fn close<'t>(journal: Journal<'t>, outcomes: &[Outcome]) -> Option<Journal<'t>>
         statuses,
         mut open_batch,
         end,
+        owing,
     } = journal;
     let Some(statuses) = settled(statuses, open_batch.as_slice(), outcomes) else {
         return None;
@@ -201,6 +203,7 @@ fn close<'t>(journal: Journal<'t>, outcomes: &[Outcome]) -> Option<Journal<'t>>
         statuses,
         open_batch,
         end,
+        owing,
     })
 }
 

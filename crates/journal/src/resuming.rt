@@ -1,8 +1,9 @@
 //! A run that was broken off is resumed.
-ghost use Rattle.std.specs.Prelude.{◌≡◌, IfOk, map};
+ghost use Rattle.std.specs.Prelude.{◌≡◌, ◌++◌, IfOk, OnOk, filter, map};
 ghost use Rattle.domains.specs.Ids.{host_numbers};
 ghost use Rattle.journal.specs.States as spec;
-ghost use Rattle.journal.specs.States.{mended, rested, resumes};
+ghost use Rattle.fleet_states.specs.Statuses.{status_at};
+ghost use Rattle.journal.specs.States.{mended, owing_with, rested, resumes};
 ghost use Rattle.journal.specs.Shown.{shown_journal};
 
 use crate::moving::set_status;
@@ -49,7 +50,44 @@ fn rest_all(alloc: Global, statuses: &[Status]) -> Result<Vec<Status>, AllocErro
     statuses.iter().map(|status| rest(*status)).collect(alloc)
 }
 
+/// Whether a host has failed, or was at work.
+fn is_tried(status: Status) -> bool
+    ensures { result ≡ spec.is_tried status }
+{
+    matches!(status, Status::Running | Status::Failed | Status::Halted)
+}
+
+/// Adds those of the hosts that have failed, or were at work.
+fn add_tried(
+    owing: &mut Vec<HostId>,
+    statuses: &[Status],
+    hosts: &[HostId],
+) -> Result<(), AllocError>
+    ensures { OnOk result (host_numbers owing.new.items
+        ≡ host_numbers owing.old.items ++ filter (λ host. spec.is_tried (status_at statuses.now host)) (host_numbers hosts.now)) }
+{
+    for host in hosts {
+        if is_tried(status_of(statuses, *host)) {
+            owing.push(*host)?;
+        }
+    }
+    Ok(())
+}
+
 impl<'t> Journal<'t> {
+    /// Who owes the handlers of the play that goes on, where these hosts are up by now. Only want of memory refuses it.
+    fn owe(&mut self, hosts: &[HostId]) -> Result<(), AllocError>
+        ensures { OnOk result (shown_journal self.new
+            ≡ record (shown_journal self.old) { owing = owing_with (shown_journal self.old) (host_numbers hosts.now) }) }
+    {
+        if self.is_one_more() {
+            self.owing.clear();
+            Ok(())
+        } else {
+            add_tried(&mut self.owing, self.statuses.as_slice(), hosts)
+        }
+    }
+
     fn resumed_end(&self) -> Option<End>
         ensures { result ≡ spec.resumed_end (shown_journal self.now) }
     {
@@ -57,11 +95,12 @@ impl<'t> Journal<'t> {
     }
 
     /// Where the run stands as it is resumed, with these hosts up by now: who was at work when it broke off may be down and stays so, and nobody waits. The play that
-    /// goes on has no end. Only want of memory refuses it.
+    /// goes on has no end; who owes its handlers is known. Only want of memory refuses it.
     pub fn resumed(mut self, alloc: Global, hosts: &[HostId]) -> Result<Journal<'t>, AllocError>
         ensures { IfOk result (λ later. shown_journal later ≡ resumes (shown_journal self.entry) (host_numbers hosts.now)) }
     {
         let end = self.resumed_end();
+        self.owe(hosts)?;
         mend(self.statuses.as_mut_slice(), hosts);
         self.statuses = rest_all(alloc, self.statuses.as_slice())?;
         self.open_batch.clear();

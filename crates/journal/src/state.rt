@@ -25,6 +25,8 @@ pub struct Journal<'t> {
     pub open_batch: Vec<HostId>,
     /// How the play has ended, if it has.
     pub end: Option<End>,
+    /// Who has failed or was at work in the play under way, and is mended since: the play has to run its handlers on them.
+    pub owing: Vec<HostId>,
 }
 
 impl<'t> Journal<'t> {
@@ -42,6 +44,7 @@ impl<'t> Journal<'t> {
             statuses,
             open_batch: Vec::new(alloc),
             end: None,
+            owing: Vec::new(alloc),
         })
     }
 

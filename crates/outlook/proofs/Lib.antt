@@ -2,3 +2,4 @@ pub mod TableLemmas
 pub mod RestLemmas
 pub mod CourseLemmas
 pub mod LawLemmas
+pub mod OwedLemmas

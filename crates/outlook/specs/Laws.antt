@@ -1,5 +1,8 @@
 -- What a run that goes on has to do with what was told of it.
-use Rattle.std.specs.Prelude.{ℕ, List, [], ◌∷◌}
+use Rattle.std.specs.Prelude.{◌≡◌, ◌<◌, ℕ, true, List, [], ◌∷◌, count_by, length}
+use Rattle.fleet_numbers.specs.NumberLists.{has_number}
+use Rattle.fleet_states.specs.declared.status.Status.TheVariants.{Updated}
+use Rattle.fleet_states.specs.Statuses.{is_waiting, status_at}
 use Rattle.host_track.specs.Endings.{Ending}
 use Rattle.json_texts.specs.declared.form.Form.{Form}
 use Rattle.play_course.specs.Files.{Course}
@@ -7,7 +10,9 @@ use Rattle.play_course.specs.Laws.{IsSameBoundary}
 use Rattle.play_course.specs.declared.boundary.Boundary.{Boundary}
 use Rattle.event_log.specs.Columns.{Columns, Tells}
 use Rattle.event_log.specs.Events.{Event}
+use Rattle.event_log.specs.Once.{is_report_of}
 use Rattle.event_log.specs.Told.{Work}
+use Rattle.journal.specs.States.{resumes}
 use Rattle.rehearsing.specs.CourseTexts.{failing_by}
 use Rattle.resuming.specs.declared.inputs.Resumption.{Resumption}
 use Rattle.roll_run.specs.Files.{TellTheirs}
@@ -16,7 +21,7 @@ use Rattle.roll_run.specs.Runs.{roll_by}
 use Rattle.roll_run.specs.declared.run.Run.{Run}
 use Rattle.run_laws.specs.Courses.{AreForeseen, FailTheirs}
 use Rattle.running.specs.Beginnings.{IsRecapFrom, plays_from}
-use Rattle.outlook.specs.Asked.{Question}
+use Rattle.outlook.specs.Asked.{GoesOnWith, Question}
 use Rattle.outlook.specs.Courses.{AreNextCourses}
 use Rattle.outlook.specs.Plans.{IsNextBoundary}
 
@@ -44,3 +49,11 @@ RunsGoOnAsForeseen may =
     → FailTheirs columns (failing_by resumption.fleet failing) resumption.fleet forks (plays_from resumption.beginning resumption.plays.items) resumption.beginning.start.statuses.items
     resumption.beginning.start.vars.items (run ∷ rest)
     → AreForeseen resumption.fleet courses (run ∷ rest)
+
+-- in the log of the play that goes on each host that owes its handlers, waits as it begins, and is updated by it, reports each of its steps once: each handler too
+abbrev pub RepairedHostsRunEachHandler : (Work → Ending → Type 0) → Type 0
+RepairedHostsRunEachHandler may =
+    (asked : Question) (resumption : Resumption) (goes : GoesOnWith asked resumption) (forks : ℕ) (runs : List Run) (logs : List (List Event))
+    (are : AreRuns may resumption.fleet forks (plays_from resumption.beginning resumption.plays.items) resumption.beginning.start.statuses.items resumption.beginning.start.vars.items runs logs)
+    (host step : ℕ) → has_number host (resumes goes.state goes.mended).owing ≡ true → is_waiting (status_at resumption.beginning.start.statuses.items host) ≡ true
+    → status_at are.run.statuses.items host ≡ Updated → step < length are.first.steps.items → count_by (is_report_of host step) are.log ≡ 1

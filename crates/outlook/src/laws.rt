@@ -1,5 +1,5 @@
 //! What a run that goes on has to do with what was told of it.
-ghost use Rattle.outlook.specs.Laws.{RunsGoOnAsForeseen, RunsGoOnAsPlanned};
+ghost use Rattle.outlook.specs.Laws.{RepairedHostsRunEachHandler, RunsGoOnAsForeseen, RunsGoOnAsPlanned};
 
 use roll_core::Runner;
 
@@ -13,4 +13,9 @@ pub fn runs_go_on_as_planned<R: Runner>(runner: &R)
 /// was not behind a run doesn't matter what would have failed on it.
 pub fn runs_go_on_as_foreseen<R: Runner>(runner: &R)
     ensures { RunsGoOnAsForeseen (R.may runner.now) }
+{}
+
+/// A repaired host runs what is owed: one that failed, or was at work, in the play that goes on, is up by now, and is updated by it, has reported each handler of that play.
+pub fn repaired_hosts_run_each_handler<R: Runner>(runner: &R)
+    ensures { RepairedHostsRunEachHandler (R.may runner.now) }
 {}

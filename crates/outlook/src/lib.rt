@@ -14,7 +14,7 @@ pub use asked::Asked;
 pub use begun::read_begun;
 pub use course::course_from;
 pub use fault::{OutlookFault, RestFault};
-pub use laws::{runs_go_on_as_foreseen, runs_go_on_as_planned};
+pub use laws::{repaired_hosts_run_each_handler, runs_go_on_as_foreseen, runs_go_on_as_planned};
 pub use limits::limits_from;
 pub use plan::plan_from;
 pub use rehearse::rehearse_from;

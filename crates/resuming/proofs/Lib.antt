@@ -1,3 +1,4 @@
+pub mod DebtLemmas
 pub mod InputLemmas
 pub mod OverLemmas
 pub mod StartLemmas

@@ -1,3 +1,4 @@
 pub mod Overs
 pub mod Journals
+pub mod Debts
 pub mod Resumptions

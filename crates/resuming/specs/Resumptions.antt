@@ -21,6 +21,7 @@ use Rattle.needed_results.specs.Needs.{needed_since}
 use Rattle.roll_run.specs.Plays.{MayStart}
 use Rattle.running.specs.Inputs.{AreHostsIn}
 use Rattle.running.specs.Inputs as running
+use Rattle.resuming.specs.Debts.{OweAmong}
 use Rattle.resuming.specs.Journals.{IsOwnJournal, RefusesJournal}
 use Rattle.resuming.specs.Overs.{TellsFleetOver}
 use Rattle.resuming.specs.declared.inputs.Resumption.{Resumption}
@@ -68,12 +69,12 @@ pub record GoesOnWith (fleet : FleetView) (plays : List Play) (mended : List ℕ
   pub left : drop before plays ≡ first ∷ later
   pub begins : statuses ≡ resumed_start (is_under_way (resumes state mended)) (targets fleet first) (rested mended state.statuses)
 
--- of a run that stands there by its journal, with these hosts up by now: there are as many plays as it began with; the play that goes on, and what it begins with; and no result is
--- read that is gone
+-- of a run that stands there by its journal, with these hosts up by now: there are as many plays as it began with; the play that goes on, what it begins with, and on whom it has to
+-- run its handlers; and no result is read that is gone
 pub record IsGoneOn (fleet : FleetView) (plays : List Play) (vars : List Vars) (mended : List ℕ) (state : JournalState) (resumption : Resumption) : Type 0 where
   pub fleet_is : resumption.fleet ≡ fleet
   pub plays_are : resumption.plays.items ≡ plays
-  pub vars_are : resumption.beginning.start.vars.items ≡ vars
+  pub owe : OweAmong (resumes state mended).owing vars resumption.beginning.start.vars.items
   pub mended_are : host_numbers resumption.mended.items ≡ mended
   pub goes : resumption.goes_on ≡ is_under_way (resumes state mended)
   pub first : Play
@@ -108,13 +109,14 @@ RefusesToGoOn fleet plays mended state (fault.Mended names) = ⊥
 
 -- what both texts say, and where the run stands that began with them, by its journal; and what it goes on with, with these hosts up by now
 pub record IsResumption (inventory playbook journal names : List ℕ) (takes_others : Bool) (resumption : Resumption) : Type 0 where
-  pub hosts : AreHostsIn inventory resumption.fleet resumption.beginning.start.vars.items
+  pub vars : List Vars
+  pub hosts : AreHostsIn inventory resumption.fleet vars
   pub says : ArePlaysIn resumption.fleet playbook resumption.plays.items
   pub mended : List ℕ
   pub named : IsMended resumption.fleet names mended
   pub state : JournalState
   pub own : IsOwnJournal resumption.fleet inventory playbook takes_others journal state
-  pub gone : IsGoneOn resumption.fleet resumption.plays.items resumption.beginning.start.vars.items mended state resumption
+  pub gone : IsGoneOn resumption.fleet resumption.plays.items vars mended state resumption
 
 -- where a run of these texts stands that has said which it is, and nothing else
 abbrev pub begun_state : FleetView → List ℕ → List ℕ → List Play → JournalState
@@ -123,11 +125,12 @@ begun_state fleet inventory playbook plays =
 
 -- what both texts say, and what a run of them begins with, with these hosts up by now: as one goes on that has said which it is, and nothing else
 pub record IsMendedBeginning (inventory playbook names : List ℕ) (beginning : Resumption) : Type 0 where
-  pub hosts : AreHostsIn inventory beginning.fleet beginning.beginning.start.vars.items
+  pub vars : List Vars
+  pub hosts : AreHostsIn inventory beginning.fleet vars
   pub says : ArePlaysIn beginning.fleet playbook beginning.plays.items
   pub mended : List ℕ
   pub named : IsMended beginning.fleet names mended
-  pub gone : IsGoneOn beginning.fleet beginning.plays.items beginning.beginning.start.vars.items mended (begun_state beginning.fleet inventory playbook beginning.plays.items) beginning
+  pub gone : IsGoneOn beginning.fleet beginning.plays.items vars mended (begun_state beginning.fleet inventory playbook beginning.plays.items) beginning
 
 -- the names are those of hosts, and a run that has said which it is, and nothing else, can't go on
 pub record CanNotBegin (fleet : FleetView) (inventory playbook names : List ℕ) (plays : List Play) (fault : ResumeFault) : Type 0 where

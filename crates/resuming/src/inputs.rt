@@ -8,6 +8,7 @@ ghost use Rattle.journal.specs.Shown.{shown_journal};
 ghost use Rattle.resuming.specs.Resumptions.{CanRun, IsGoneOn, IsMended, IsMendedBeginning, IsResumption, RefusesMended, RefusesToBegin, RefusesToGoOn, RefusesToResume, begun_state};
 
 use crate::beginning::{plays_before, start_play};
+use crate::debts::with_debts;
 use crate::fault::ResumeFault;
 use crate::journals::read_own;
 use crate::needs::{has_updated, needed_behind};
@@ -81,6 +82,7 @@ fn go_on(
         let name = String::from_str(alloc, name)?;
         return Err(ResumeFault::NeedsResult { name });
     }
+    let vars = with_debts(vars, journal.owing.as_slice());
     let statuses = start_play(alloc, &fleet, journal, &plays[before])?;
     refuse_over(alloc, &fleet, statuses.as_slice())?;
     Ok(Resumption {

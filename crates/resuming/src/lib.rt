@@ -2,6 +2,7 @@
 #![tactic(auto)]
 
 mod beginning;
+mod debts;
 mod fault;
 mod inputs;
 mod journals;

@@ -1,9 +1,9 @@
 -- What is left of each host, by the summaries of its rows.
-use Rattle.std.proofs.Common.{◌≡◌, ℕ, zero, suc, ◌<◌, Some, List, [], ◌∷◌, length, map, sym, ap, ◌∙◌, refl}
+use Rattle.std.proofs.Common.{◌≡◌, ℕ, zero, suc, ◌<◌, Some, option_map, List, [], ◌∷◌, length, map, sym, ap, ◌∙◌, refl}
 use Rattle.std.specs.List.{slice_get}
 use Rattle.std.proofs.lemmas.List.{length-map}
 use Rattle.host_vars.specs.declared.vars.Vars.{Vars}
-use Rattle.host_track.specs.Hosts.{known_of}
+use Rattle.host_track.specs.Hosts.{Known, known_of, without_debt}
 use Rattle.host_track.specs.declared.counts.Counts.{Counts}
 use Rattle.host_track.specs.declared.summary.Summary.{Summary}
 use Rattle.event_log.specs.Rolls.{Roll}
@@ -21,14 +21,23 @@ read_off f (x ∷ xs) zero y e = (x, refl, some_same (f x) y e)
     some_same a b e = cc
 read_off f (x ∷ xs) (suc place) y e = read_off f xs place y e
 
+read_on : {X Y : Type 0} (f : X → Y) (xs : List X) (place : ℕ) (x : X) → slice_get xs place ≡ Some x → slice_get (map f xs) place ≡ Some (f x)
+read_on f [] place x e = absurd (cc)
+read_on f (first ∷ xs) zero x e = ap (option_map f) e
+read_on f (first ∷ xs) (suc place) x e = read_on f xs place x e
+
 module _ (roll : Roll) (state : State) (work : BatchWork) (is : IsWorkOf roll state work) where
-  pub vars_left : (left : List Vars) → left ≡ map (λ (summary : Summary). summary.vars) work.summaries.items → AreKnown roll state left
+  -- what is known of a host whose summary that is, once the play is over
+  abbrev left_of : Summary → Known
+  left_of summary = without_debt (known_of summary.vars)
+
+  pub vars_left : (left : List Vars) → map known_of left ≡ map left_of work.summaries.items → AreKnown roll state left
   vars_left left reads =
       record {
-        all = ap length reads ∙ length-map work.summaries.items (λ (summary : Summary). summary.vars) ∙ is.hosts;
+        all = sym (length-map left known_of) ∙ ap length reads ∙ length-map work.summaries.items left_of ∙ is.hosts;
         each = λ host vars here.
-            let read = read_off (λ (summary : Summary). summary.vars) work.summaries.items host vars (sym (ap (λ l. slice_get l host) reads) ∙ here) in
-            sym (ap known_of read.2) ∙ (is.summaries host read.0 read.1).known;
+            let read = read_off left_of work.summaries.items host (known_of vars) (sym (ap (λ l. slice_get l host) reads) ∙ read_on known_of left host vars here) in
+            sym read.2 ∙ ap without_debt (is.summaries host read.0 read.1).known;
       }
 
   pub counts_left : ((host : ℕ) → length (state.rows host) < 4294967296) → (left : List Counts) → left ≡ map (λ (summary : Summary). summary.counts) work.summaries.items → AreCounted roll state left

@@ -1,16 +1,16 @@
 -- What is left of each host when a roll is over.
 use Rattle.std.specs.Prelude.{◌≡◌, ℕ, Some, List, length, slice_get}
 use Rattle.host_vars.specs.declared.vars.Vars.{Vars}
-use Rattle.host_track.specs.Hosts.{known_of}
+use Rattle.host_track.specs.Hosts.{known_of, without_debt}
 use Rattle.host_track.specs.declared.counts.Counts.{Counts}
 use Rattle.host_track.specs.Tracks.{counts_in, known_after}
 use Rattle.event_log.specs.Rolls.{Roll}
 use Rattle.event_log.specs.States.{State}
 
--- of each host what is known after its rows
+-- of each host what is known after its rows; with the play it is over what it owed
 pub record AreKnown (roll : Roll) (state : State) (left : List Vars) : Type 0 where
   pub all : length left ≡ length roll.start
-  pub each : (host : ℕ) (vars : Vars) → slice_get left host ≡ Some vars → known_of vars ≡ known_after roll.play (roll.known host) (state.rows host)
+  pub each : (host : ℕ) (vars : Vars) → slice_get left host ≡ Some vars → known_of vars ≡ without_debt (known_after roll.play (roll.known host) (state.rows host))
 
 -- of each host how its rows are judged
 pub record AreCounted (roll : Roll) (state : State) (left : List Counts) : Type 0 where

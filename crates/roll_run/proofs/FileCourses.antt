@@ -8,6 +8,7 @@ use Rattle.host_vars.specs.declared.vars.Vars.{Vars}
 use Rattle.host_vars.specs.HostVars.{IsSameHost}
 use Rattle.host_track.specs.Endings.{Ending}
 use Rattle.host_track.specs.Hosts.{Known, known_of}
+use Rattle.host_track.proofs.SummaryLemmas.{kept_known}
 use Rattle.batch_plan.specs.Beginnings.{restart_statuses}
 use Rattle.event_log.specs.Works.{known_at}
 use Rattle.play_model.specs.declared.play.Play.{Play}
@@ -35,9 +36,7 @@ use Rattle.roll_run.specs.Files.{TellLater, TellTheirs, course_of, roll_after, s
 use Rattle.roll_run.specs.Laws.{NoWorkerAtBoundaries, RunsAreCourses}
 
 same_host : (one other : Vars) → IsSameHost one other → known_of one ≡ known_of other
-same_host one other same =
-    ap (λ variables. record (known_of one) { variables = variables }) same.variables
-    ∙ ap (λ results. record (known_of other) { results = results }) (fun_ext same.results)
+same_host one other same = kept_known other one same.variables same.results same.owes
 
 same_vars : (ones others : List Vars) → AreSameHosts ones others → (host : ℕ) → known_at ones host ≡ known_at others host
 same_vars [] [] same host = refl

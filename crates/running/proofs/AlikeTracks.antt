@@ -77,7 +77,7 @@ same_row known (Some step) (Some other) place given alike =
     ∙ ap (row (end_of (asks known other) given)) (same_finding step other alike known (end_of (asks known other) given))
   where
     row : Ending → Finding → List Entry
-    row ending finding = (record { step = place; ending = ending; finding = finding }) ∷ []
+    row ending finding = (record { step = place; ending = ending; finding = finding; owes = known.owes }) ∷ []
 
 same_handlers : (step other : Option Step) → AlikeAt step other → handlers_of step ≡ handlers_of other
 unfolding AlikeAt
@@ -101,7 +101,7 @@ module _ (play other : Play) (alike : AreAlikePlays play other) where
   same_notified : (entries : List Entry) (handler : ℕ) → is_notified play entries handler ≡ is_notified other entries handler
   same_notified [] handler = refl
   same_notified (entry ∷ entries) handler =
-      ap₂ ◌||◌ (ap (λ (handlers : List ℕ). does_notify entry.finding.judged && has_number handler handlers) (same_handlers (step_at play entry.step) (step_at other entry.step) (here entry.step)))
+      ap₂ ◌||◌ (ap (λ (handlers : List ℕ). entry.owes || (does_notify entry.finding.judged && has_number handler handlers)) (same_handlers (step_at play entry.step) (step_at other entry.step) (here entry.step)))
       (same_notified entries handler)
 
   same_due : (entries : List Entry) (place : ℕ) → is_due play entries place ≡ is_due other entries place

@@ -183,13 +183,13 @@ module _ (inventory : List ℕ) (fleet : FleetView) (vars others : List Vars) (o
       sym first
       ∙ one_view (host_at fleet.hosts host) _ _ (one.variables.each host (variables_of v) within) (hosts_of_other.each host (variables_of w) within)
       ∙ second in
-      let none : (name : Name) → result_in v name ≡ result_in w name = λ name.
-      (subst HasNoResult (get_or_from_slice_get vars host v v e) (one.results host v (omega (arith, within, many)))).results name
-      ∙ sym ((subst HasNoResult (get_or_from_slice_get others host w w f) (two.results host w (omega (arith, within, many_others)))).results name) in
-      ap₂ (λ (view : HostView) (results : Name → Option Row). known view results) views (fun_ext none)
+      let bare : HasNoResult v = subst HasNoResult (get_or_from_slice_get vars host v v e) (one.results host v (omega (arith, within, many))) in
+      let also : HasNoResult w = subst HasNoResult (get_or_from_slice_get others host w w f) (two.results host w (omega (arith, within, many_others))) in
+      ap₂ (λ (view : HostView) (results : Name → Option Row). known view results v.owes) views (fun_ext (λ name. bare.results name ∙ sym (also.results name)))
+      ∙ ap (known (variables_of w) (result_in w)) (bare.owes ∙ sym also.owes)
     where
-      known : HostView → (Name → Option Row) → Known
-      known view results = record { variables = view; results = results }
+      known : HostView → (Name → Option Row) → Bool → Known
+      known view results owes = record { variables = view; results = results; owes = owes }
 
   pub same_known : (host : ℕ) → known_at vars host ≡ known_at others host
   same_known host = go (slice_get vars host) refl (slice_get others host) refl

@@ -16,7 +16,7 @@ use Rattle.fleet_states.specs.Starts.{start_statuses}
 use Rattle.batch_plan.specs.Beginnings.{restart_statuses}
 use Rattle.host_vars.specs.declared.vars.Vars.{Vars}
 use Rattle.host_track.specs.Endings.{Ending}
-use Rattle.host_track.specs.Hosts.{Known, known_of}
+use Rattle.host_track.specs.Hosts.{Known, known_of, without_debt}
 use Rattle.host_track.specs.Tracks.{Entry, known_after}
 use Rattle.play_model.specs.declared.play.Play.{Play}
 use Rattle.play_course.specs.PlayPlans.{targets}
@@ -99,8 +99,10 @@ module _ (may might : Work → Ending → Type 0) (columns : ℕ → Columns) (f
       each : (host : ℕ) (v w : Vars) → slice_get run.vars.items host ≡ Some v → slice_get also.vars.items host ≡ Some w → known_of v ≡ known_of w
       each host v w e f =
           let rows : List Entry = (end_state other second).rows host in
-          one.vars.each host v e ∙ ap (known_after roll.play (roll.known host)) (leaves.rows host) ∙ same_known_after roll.play other.play alike.play rows (roll.known host)
-          ∙ ap (λ (k : Known). known_after other.play k rows) (alike.known host) ∙ sym (two.vars.each host w f)
+          one.vars.each host v e
+          ∙ ap without_debt (ap (known_after roll.play (roll.known host)) (leaves.rows host) ∙ same_known_after roll.play other.play alike.play rows (roll.known host)
+          ∙ ap (λ (k : Known). known_after other.play k rows) (alike.known host))
+          ∙ sym (two.vars.each host w f)
 
   later_alike : (play other : Play) → AreAlikePlays play other → (before also : Run) → EndAlike before also
       → BeginAlike (roll_after fleet forks play before) (roll_after fleet more other also) × (length (roll_after fleet forks play before).start ≡ length fleet.hosts)

@@ -63,7 +63,7 @@ not_among test name (first ∷ names) is none =
 
 -- the host without a result under this name
 abbrev without : Name → Known → Known
-without name known = record { variables = known.variables; results = λ other. cond (same_name name other) None (known.results other) }
+without name known = record { variables = known.variables; results = λ other. cond (same_name name other) None (known.results other); owes = known.owes }
 
 differ_there : (name : Name) (known : Known) → AgreeBeside name (environment_in known) (environment_in (without name known))
 differ_there name known = record {
@@ -104,7 +104,7 @@ module _ (step : Step) (steps : List Step) (condition : Cond) where
 same_verdict : (steps : List Step) (condition : Cond) (known : Known) → HasResultsOf steps known → list_any (is_registered steps) (names_of condition) ≡ false
     → verdict_of (environment_in known) condition ≡ verdict_of (environment_in (fresh known.variables)) condition
 same_verdict [] condition known has none =
-    ap (λ (k : Known). verdict_of (environment_in k) condition) (λ j. record { variables = known.variables; results = λ name. has name refl j })
+    ap (λ (k : Known). verdict_of (environment_in k) condition) (λ j. record { variables = known.variables; results = λ name. has name refl j; owes = known.owes })
 same_verdict (step ∷ steps) condition known has none =
     by_register step steps condition (register_of step) refl (same_verdict steps condition) known has none
 

@@ -47,7 +47,7 @@ within_more bound hosts new host waits before within grown =
 
 -- a host without results
 pub fresh_without : (one : Vars) → HasNoResult one → known_of one ≡ fresh (variables_of one)
-fresh_without one none = λ j. record { variables = variables_of one; results = λ name. none.results name j }
+fresh_without one none = λ j. record { variables = variables_of one; results = λ name. none.results name j; owes = none.owes j }
 
 pub view_there : (vars : List Vars) (i : ℕ) (d : Vars) → i < length vars → variables_of (get_or vars i d) ≡ view_at (views_of vars) i
 view_there vars i d within = sym (get_or-map variables_of vars i d _ within)

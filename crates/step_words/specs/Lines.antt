@@ -36,7 +36,7 @@ pub record Line : Type 0 where
 
 -- a host on which no step has run yet
 abbrev pub fresh : HostView → Known
-fresh view = record { variables = view; results = λ name. None }
+fresh view = record { variables = view; results = λ name. None; owes = false }
 
 -- the variables of the host with this number, and none past the end
 abbrev pub view_at : List HostView → ℕ → HostView

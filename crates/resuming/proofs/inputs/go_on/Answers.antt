@@ -1,9 +1,10 @@
-use Rattle.std.proofs.Common.{◌≡◌, ◌<◌, ℕ, suc, List, ◌∷◌, drop, drop-cons, length, None, refl, sym, ap, ◌∙◌, arith}
+use Rattle.std.proofs.Common.{◌≡◌, ◌<◌, ℕ, suc, List, ◌∷◌, drop, drop-cons, length, None, refl, sym, ap, ◌∙◌, subst, arith}
 use Rattle.std.specs.Prelude.{option_map}
 use Rattle.domains.specs.Ids.{host_numbers}
 use Rattle.play_model.specs.declared.play.Play.{Play}
 use Rattle.journal.specs.Shown.{shown_journal}
 use Rattle.journal.specs.States.{JournalState, is_under_way, resumes}
+use Rattle.resuming.specs.Debts.{OweAmong}
 use Rattle.resuming.specs.Resumptions.{RefusesToGoOn, needed_again}
 use Rattle.resuming.proofs.InputLemmas.{known_at}
 use Rattle.resuming.proofs.StartLemmas.{goes_on_with, needed_so, over_refused, passed_on, ready}
@@ -34,7 +35,7 @@ returns-in_err-refuse_over-clause-err c =
     before c.plays_before-before.ensures c.has_updated.result c.has_updated.ensures c.as_slice-2.ensures.value) ∙ ap (option_map (λ name. name.now)) c.in_default.is in
     let why = c.in_err-refuse_over.field-0.0 in
     passed_on c.from_residual-in_err-refuse_over.result why (RefusesToGoOn c.args.fleet plays hosts state) c.from_residual-in_err-refuse_over.ensures.1
-    (over_refused c.args.fleet plays hosts state before first (drop (suc before) plays) c.in_ok-statuses.statuses.items on nothing why (rw c.as_slice-3.ensures.value at c.in_err-refuse_over.ensures.err))
+    (over_refused c.args.fleet plays hosts state before first (drop (suc before) plays) c.in_ok-statuses.statuses.items on nothing why (rw c.as_slice-4.ensures.value at c.in_err-refuse_over.ensures.err))
 
 pub returns-clause-ok : goal.returns-clause-ok
 returns-clause-ok c =
@@ -46,10 +47,11 @@ returns-clause-ok c =
     let some : before < length plays = omega (arith, c.if-before-len.false, c.len-2.ensures) in
     let parts : drop before plays ≡ first ∷ drop (suc before) plays = drop-cons plays before first some ∙ ap (λ (play : Play). play ∷ drop (suc before) plays) (sym c.index.ensures) in
     let said : shown_journal c.in_ok-journal.journal ≡ resumes state hosts = c.in_ok-journal.ensures ∙ ap (λ l. resumes state (host_numbers l)) c.as_slice.ensures.value in
+    let owing : host_numbers c.as_slice-3.result.now ≡ (resumes state hosts).owing = ap host_numbers c.as_slice-3.ensures.value ∙ ap (λ (s : JournalState). s.owing) said in
     record {
       fleet_is = refl;
       plays_are = refl;
-      vars_are = refl;
+      owe = subst (λ (owing : List ℕ). OweAmong owing c.args.vars.items c.with_debts-vars.result.items) owing c.with_debts-vars.ensures;
       mended_are = refl;
       goes = c.is_under_way-goes_on.ensures ∙ ap is_under_way said;
       first = first;
@@ -76,7 +78,7 @@ returns-clause-can c =
       play = some;
       known = c.requires.known;
       starts = record {
-        ready = ready c.args.fleet plays hosts state before first (drop (suc before) plays) c.in_ok-statuses.statuses.items on c.requires.all (rw c.as_slice-3.ensures.value at c.in_ok-refuse_over.ensures.ok);
-        each = c.requires.each;
+        ready = ready c.args.fleet plays hosts state before first (drop (suc before) plays) c.in_ok-statuses.statuses.items on c.requires.all (rw c.as_slice-4.ensures.value at c.in_ok-refuse_over.ensures.ok);
+        each = c.with_debts-vars.ensures.all ∙ c.requires.each;
       };
     }
