@@ -1,6 +1,5 @@
 //! Characters that would control a terminal or turn the direction of text: control bytes, and marks of several bytes.
-ghost use Rattle.std.specs.Prelude.{◌≡◌};
-ghost use Rattle.std.specs.Prelude.{slice_index_or};
+ghost use Rattle.std.specs.Prelude.{◌≡◌, slice_index_or};
 ghost use Rattle.terminal_text.specs.Marks as spec;
 
 /// The byte at this place; 0 past the end.
@@ -19,7 +18,7 @@ pub(crate) fn is_control(byte: u8) -> bool
     byte < b' ' || byte == 0x7f
 }
 
-/// How many bytes of these belong to a mark, if so many of one are left; otherwise the length of the mark that they start with, or 0.
+/// How many of these bytes belong to a mark: those that are left of one, or else those of the mark that they start with.
 pub(crate) fn marked(left: usize, bytes: &[u8]) -> usize
     ensures { result ≡ spec.marked left bytes.now }
 {

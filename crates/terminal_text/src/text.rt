@@ -9,7 +9,7 @@ use crate::marks::{byte_at, marked};
 use bounded_io::TextWriter;
 use std::io::Write;
 
-/// Continues with the first of these bytes, where so many of a mark are left; returns how many are left after it.
+/// Continues with the first of these bytes, of which so many are left of a mark; returns how many are left of it then.
 fn write_first<W: Write>(
     text: &mut TextWriter<'_, W>,
     layout: &Layout<'_>,
