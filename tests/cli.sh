@@ -867,4 +867,12 @@ bad 'plan a b --words=all' 'rollout plan --words <INV> <PLAY>' "unexpected value
 bad '--forks 3' 'rollout <COMMAND>' "unexpected argument '--forks' found"
 run "$(printf '\377')"
 check 'a word that is no text' 1 '' "rollout: 901 BadLine$newline"
+run limits a "$(printf 'b\033\t\302\205c\330\234\342\200\216d\342\200\250e\342\200\251\342\200\256\342\201\246\303\251\342\200\247')"
+check 'characters that move a terminal about' 1 '' "rollout: 901 BadLine
+error: unexpected argument 'b?$(printf '\t')?c??d?e???é‧' found
+
+Usage: rollout limits [OPTIONS] <INV>
+
+For more information, try '--help'.
+"
 finish

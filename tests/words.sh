@@ -120,17 +120,11 @@ told 'so does what is made of the result' 0 "$one" "[$(play '{"command":"p","reg
 
 # Words as a shell reads them: by hand, and read back by one.
 cat >"$work/words.json" <<'WORDS'
-["printf","","a b","it's","'","$HOME","a*b","~","#","a;b","!","\"","\\","@%+=:,./_-","Az09","\n","a\tb","\r","\u0001","\u001f","\u007f","it's\\\n\"","\u0001a","é","\u0080","-n",7,"}}"]
+["printf","","a b","it's","'","$HOME","a*b","~","#","a;b","!","\"","\\","@%+=:,./_-","Az09","\n","a\tb","\r","\u0001","\u001f","\u007f","it's\\\n\"","\u0001a","é","\u0080","caf\u00e9\u202e's","\u061c\u200e","\u2028a","a\u2029","\u2027","\u2069","-n",7,"}}"]
 WORDS
 cat >"$work/expected.words" <<'WORDS'
-printf '' 'a b' 'it'\''s' ''\''' '$HOME' 'a*b' '~' '#' 'a;b' '!' '"' '\' @%+=:,./_- Az09 $'\n' $'a\tb' $'\r' $'\x01' $'\x1f' $'\x7f' $'it\'s\\\n"' $'\x01a' 'é' '' -n 7 '}}'
+printf '' 'a b' 'it'\''s' ''\''' '$HOME' 'a*b' '~' '#' 'a;b' '!' '"' '\' @%+=:,./_- Az09 $'\n' $'a\tb' $'\r' $'\x01' $'\x1f' $'\x7f' $'it\'s\\\n"' $'\x01a' 'é' $'\xc2\x80' $'café\xe2\x80\xae\'s' $'\xd8\x9c\xe2\x80\x8e' $'\xe2\x80\xa8a' $'a\xe2\x80\xa9' '‧' $'\xe2\x81\xa9' -n 7 '}}'
 WORDS
-# U+0080 stands between the quotes of the last but three.
-python3 - "$work/expected.words" <<'PUT'
-import sys
-text = open(sys.argv[1], encoding="utf-8").read()
-open(sys.argv[1], "w", encoding="utf-8").write(text.replace("'é' ''", "'é' '\u0080'"))
-PUT
 quoted=$(cat "$work/expected.words")
 told 'each word stands as a shell reads it' 0 "$one" "[{\"hosts\":\"all\",\"tasks\":[{\"command\":{\"argv\":$(cat "$work/words.json")}}]}]" "a step=1 runs: $quoted"
 sed 's/^a step=1 runs: //' "$work/out" >"$work/line"

@@ -7,6 +7,7 @@ from needing import in_conditions
 from planning import start
 from results import SKIPPED, Outcome
 from rules import turned
+from telling import HIDDEN
 from track import asked
 
 PLAIN = set("ABCDEFGHIJKLMNOPQRSTUVWXYZabcdefghijklmnopqrstuvwxyz0123456789@%+=:,./_-")
@@ -105,10 +106,10 @@ def in_shell(word):
 
 
 def _is_control(sign):
-    return ord(sign) < 0x20 or (ord(sign) == 0x7F and not turned("foretold-delete-is-a-control-character"))
+    return ord(sign) < 0x20 or ord(sign) in HIDDEN or (ord(sign) == 0x7F and not turned("foretold-delete-is-a-control-character"))
 
 
 def _escaped(sign):
     if sign in ESCAPES and not (sign == "\\" and turned("foretold-backslashes-within-escapes")):
         return ESCAPES[sign]
-    return f"\\x{ord(sign):02x}" if _is_control(sign) else sign
+    return "".join(f"\\x{byte:02x}" for byte in sign.encode()) if _is_control(sign) else sign

@@ -10,7 +10,7 @@ from texts import as_text, listed
 from words import LONGEST
 
 # Characters beside the control characters that would move a terminal about or turn its text round.
-HIDDEN = {*range(0x80, 0xA0), 0x61C, 0x200E, 0x200F, *range(0x202A, 0x202F), *range(0x2066, 0x206A)}
+HIDDEN = {*range(0x80, 0xA0), 0x61C, 0x200E, 0x200F, *range(0x2028, 0x202F), *range(0x2066, 0x206A)}
 WARNING = "its name stands where an option may: write -- before it"
 TIMES = re.compile(
     r"^(waiting=\d+) at=\d+ open:|^(\S+ step=\d+ begins) at=\d+ name=|^(\S+ step=\d+(?: (?!name=)\S+)*) ms=\d+ name=|^(closed [^\n]*) ms=\d+ at=\d+$", re.M

@@ -1,5 +1,5 @@
 -- What is said behind the line of a fault.
-use Rattle.std.specs.Prelude.{ℕ, ◌&&◌, ◌||◌, ◌==◌, not, nat_lt, if◌then◌else◌, List, [], ◌∷◌, codes, flat_map}
+use Rattle.std.specs.Prelude.{ℕ, List, [], codes}
 use Rattle.command_line.specs.Clashes as clashes
 use Rattle.command_line.specs.Messages as messages
 use Rattle.command_line.specs.declared.fault.LineFault.TheVariants as line_fault
@@ -7,13 +7,7 @@ use Rattle.json_texts.specs.declared.form.Form.{Form}
 use Rattle.json_texts.specs.declared.form.Form.TheVariants.{Plain, Json}
 use Rattle.rollout.specs.declared.fault.Fault.{Fault}
 use Rattle.rollout.specs.declared.fault.Fault.TheVariants.{Line, Input, Read, Fleet, Playbook, Pattern, Mixed, LongLine, JournalThere, JournalWrite, ChildrenIgnored, Stopped, Locked, BadJournal, OtherInputs, NeedsResult, OutputIsInput, NoValue, BadPlan, Unexpected, BadList, Write, Memory}
-
--- a byte of a text in which words of somebody else stand: a control character but for the line feed and the tabulator is a question mark
-abbrev pub told : ℕ → ℕ
-told byte = if (nat_lt byte 32 && (not (byte == 10) && not (byte == 9))) || byte == 127 then 63 else byte
-
-abbrev pub told_text : List ℕ → List ℕ
-told_text bytes = flat_map (λ byte. told byte ∷ []) bytes
+use Rattle.terminal_text.specs.Texts.{lines_text}
 
 -- how a run is started where the ends of children are ignored
 abbrev pub ignored : List ℕ
@@ -21,7 +15,7 @@ ignored = codes "SIGCHLD is ignored here, so no program's end could be had. Star
 
 -- what is said behind the line of a fault: what is wrong with bad words, and what to do
 abbrev pub explanation_of : Fault → List ℕ
-explanation_of (Line (line_fault.BadLine explanation)) = told_text (messages.text_of explanation)
+explanation_of (Line (line_fault.BadLine explanation)) = lines_text (messages.text_of explanation)
 explanation_of (Line (line_fault.Apart clash)) = clashes.text_of clash
 explanation_of (Line line_fault.Unexplained) = []
 explanation_of (Line line_fault.Memory) = []

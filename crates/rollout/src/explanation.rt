@@ -8,6 +8,7 @@ use bounded_io::TextWriter;
 use command_line::LineFault;
 use json_texts::Form;
 use std::io::Write;
+use terminal_text::write_lines;
 
 /// How a run is started where the ends of children are ignored.
 const IGNORED: &str = "\
@@ -31,31 +32,10 @@ fn write_plain<W: Write>(text: &mut TextWriter<'_, W>, fault: &Fault)
 {
     match fault {
         Fault::Line(LineFault::BadLine(explanation)) => {
-            write_told(text, explanation.as_str().as_bytes());
+            write_lines(text, explanation.as_str().as_bytes());
         }
         Fault::Line(LineFault::Apart(clash)) => text.write_str(clash.text()),
         Fault::ChildrenIgnored => text.write_str(IGNORED),
         _ => {}
-    }
-}
-
-/// Goes on with lines in which words of somebody else stand.
-#[tactic(auto, using(bounded_io::proofs::Pieces::pieces_of_text))]
-fn write_told<W: Write>(text: &mut TextWriter<'_, W>, bytes: &[u8])
-    ensures { Writes W.contents text.old text.new (spec.told_text bytes.now) }
-{
-    for byte in bytes {
-        text.write_bytes(&[told(*byte)]);
-    }
-}
-
-/// A control character would move a terminal about, so it is a question mark, but for the ends of lines and tabulators.
-fn told(byte: u8) -> u8
-    ensures { result ≡ spec.told byte }
-{
-    if byte < b' ' && byte != b'\n' && byte != b'\t' || byte == 0x7f {
-        b'?'
-    } else {
-        byte
     }
 }

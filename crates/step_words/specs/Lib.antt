@@ -1,6 +1,5 @@
 pub mod Unsure
 pub mod Foretelling
-pub mod Shell
 pub mod Lines
 pub mod WordTexts
 pub mod Holes

@@ -19,9 +19,9 @@ use Rattle.recap.specs.LimitsText.{field_text}
 use Rattle.recap.specs.RecapText.{text_by_place}
 use Rattle.step_words.specs.Unsure.{is_registered, steps_of}
 use Rattle.step_words.specs.Foretelling.{Foretold, foretold}
-use Rattle.step_words.specs.Shell.{shell_words}
 use Rattle.step_words.specs.declared.end.WordsEnd.{WordsEnd}
 use Rattle.step_words.specs.declared.end.WordsEnd.TheVariants.{Sure, Fails}
+use Rattle.terminal_text.specs.Shell.{shell_word}
 
 -- what each entry of a list gives, where the first stands at this place
 abbrev pub by_place : {X Y : Type 0} → (ℕ → X → Y) → ℕ → List X → List Y
@@ -73,6 +73,10 @@ lines_of_plays fleet views plays =
 
 abbrev pub word_of : Bool → List ℕ → List ℕ → List ℕ
 word_of is_sure sure unsure = if is_sure then sure else unsure
+
+-- each word after a blank
+abbrev pub shell_words : List (List ℕ) → List ℕ
+shell_words words = flat_map (λ word. codes " " ++ shell_word word) words
 
 -- ` runs: WORDS`
 abbrev pub job_text : Bool → List (List ℕ) → List ℕ

@@ -13,7 +13,6 @@ mod lines;
 mod plays;
 mod printing;
 mod reading;
-mod shell;
 mod wording;
 
 pub use end::WordsEnd;

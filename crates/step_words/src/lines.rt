@@ -6,16 +6,27 @@ ghost use Rattle.step_words.specs.Lines as spec;
 
 use crate::asking::Asking;
 use crate::foretold::Foretold;
-use crate::shell::write_words;
 use bounded_io::TextWriter;
 use recap::write_field;
 use std::io::Write;
+use terminal_text::write_shell_word;
 
 /// The first of two words where it is sure, and else the second.
 fn word_of(is_sure: bool, sure: &'static str, unsure: &'static str) -> &'static str
     ensures { result.now ≡ spec.word_of is_sure sure.now unsure.now }
 {
     if is_sure { sure } else { unsure }
+}
+
+/// Continues with the words, each after a blank.
+#[tactic(auto, using(bounded_io::proofs::Pieces::pieces_of_text))]
+fn write_words<W: Write>(text: &mut TextWriter<'_, W>, words: &[String])
+    ensures { Writes W.contents text.old text.new (spec.shell_words (texts_of words.now)) }
+{
+    for word in words {
+        text.write_str(" ");
+        write_shell_word(text, word.as_bytes());
+    }
 }
 
 #[tactic(auto, using(bounded_io::proofs::Pieces::pieces_of_text))]

@@ -1,4 +1,2 @@
 mod HearingLemmas
 mod OptionLemmas
-mod ShownLemmas
-mod ReadingLemmas

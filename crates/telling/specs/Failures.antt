@@ -12,10 +12,10 @@ use Rattle.host_track.specs.declared.judged.Judged.{Judged}
 use Rattle.roll_core.specs.Tellings.{Telling, aside, opening, begin, row, closing}
 use Rattle.telling.specs.Evidence.{IsSaid}
 use Rattle.telling.specs.Rows.{error_text, row_line}
-use Rattle.telling.specs.Shown.{output_text}
 use Rattle.telling.specs.Tellings.{name_at, number_of}
 use Rattle.telling.specs.declared.evidence.Said.{Said}
 use Rattle.telling.specs.declared.given.Given.{Given}
+use Rattle.terminal_text.specs.Texts.{output_text}
 
 -- a row that is judged failed, so that the host goes no further
 abbrev pub is_failure : Telling → Bool

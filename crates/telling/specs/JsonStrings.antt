@@ -2,7 +2,7 @@
 use Rattle.std.specs.Prelude.{ℕ, ◌==◌, if◌then◌else◌, List, [], ◌∷◌, ◌++◌, codes, flat_map, length}
 use Rattle.domains.specs.FleetViews.{FleetView}
 use Rattle.domains.specs.Numbered.{host_at}
-use Rattle.telling.specs.Shown.{escaped_text}
+use Rattle.terminal_text.specs.Texts.{escaped_text}
 
 -- a text on one line: a line feed in it is a question mark, as each other control character
 abbrev pub string_json : List ℕ → List ℕ

@@ -13,9 +13,9 @@ use Rattle.telling.specs.Batches.{count_after, is_failed, is_halted, is_updated}
 use Rattle.telling.specs.JsonRows.{row_json}
 use Rattle.telling.specs.JsonStrings.{hosts_json, name_json, string_json}
 use Rattle.telling.specs.Options.{is_taken_for_an_option}
-use Rattle.telling.specs.Shown.{escaped_text}
 use Rattle.telling.specs.Tellings.{name_at, number_of, warning}
 use Rattle.telling.specs.declared.given.Given.{Given}
+use Rattle.terminal_text.specs.Texts.{escaped_text}
 
 -- `{"event":"held","hosts":["NAME",..]}`
 abbrev pub held_object : FleetView → List ℕ → List ℕ

@@ -1,4 +1,3 @@
-pub mod Shown
 pub mod Options
 pub mod Rows
 pub mod Batches
@@ -16,5 +15,3 @@ pub mod StatusLines
 pub mod Screens
 pub mod Above
 pub mod Hearing
-pub mod JsonReading
-pub mod Laws

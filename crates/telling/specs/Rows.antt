@@ -9,8 +9,8 @@ use Rattle.recap.specs.LimitsText.{field_text}
 use Rattle.local_programs.specs.declared.remark.Remark.{Remark}
 use Rattle.local_programs.specs.declared.remark.Remark.TheVariants.{Nothing, Signal, Refused}
 use Rattle.recap.specs.Integers.{integer_text}
-use Rattle.telling.specs.Shown.{output_text, shown_text}
 use Rattle.telling.specs.declared.given.Given.{Given}
+use Rattle.terminal_text.specs.Texts.{output_text, shown_text}
 
 -- the verdict, as the recap counts it
 abbrev pub verdict_text : Judged → List ℕ

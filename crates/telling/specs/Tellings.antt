@@ -13,8 +13,8 @@ use Rattle.roll_core.specs.Tellings.{Telling, aside, opening, begin, row, closin
 use Rattle.telling.specs.Batches.{closing_line, opening_line}
 use Rattle.telling.specs.Options.{is_taken_for_an_option}
 use Rattle.telling.specs.Rows.{name_text, row_text}
-use Rattle.telling.specs.Shown.{output_text}
 use Rattle.telling.specs.declared.given.Given.{Given}
+use Rattle.terminal_text.specs.Texts.{output_text}
 
 -- the name of a step; one that has none is given an empty one
 abbrev pub step_name : Option Step → List ℕ

@@ -8,13 +8,13 @@ use crate::given::Given;
 use crate::names::{step_name, step_number};
 use crate::options::{WARNING, is_taken_for_an_option};
 use crate::rows::write_name;
-use crate::shown::write_output;
 use bounded_io::TextWriter;
 use domains::Fleet;
 use play_model::Play;
 use recap::{host_name, write_field};
 use roll_core::Job;
 use std::io::Write;
+use terminal_text::write_output;
 
 #[tactic(auto, using(bounded_io::proofs::Pieces::pieces_of_text))]
 fn write_begin_line<W: Write>(

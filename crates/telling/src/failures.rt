@@ -13,13 +13,13 @@ use crate::given::Given;
 use crate::names::{step_name, step_number};
 use crate::row_ends::End;
 use crate::rows::{write_error, write_row_line};
-use crate::shown::write_output;
 use bounded_io::{TextWriter, WriteFault};
 use domains::Fleet;
 use play_model::Play;
 use recap::host_name;
 use roll_core::News;
 use std::io::Write;
+use terminal_text::write_output;
 
 /// Whether a row is judged failed, so that the host goes no further.
 pub(crate) fn is_failure(news: &News<'_>) -> bool

@@ -4,12 +4,12 @@ ghost use Rattle.bounded_io.specs.Writing.{Writes};
 ghost use Rattle.domains.specs.Ids.{host_numbers};
 ghost use Rattle.telling.specs.JsonStrings as spec;
 
-use crate::shown::write_escaped;
 use bounded_io::TextWriter;
 use domains::Fleet;
 use group_tree::HostId;
 use recap::host_name;
 use std::io::Write;
+use terminal_text::write_escaped;
 
 /// Writes a text of others on one line.
 #[tactic(auto, using(bounded_io::proofs::Pieces::pieces_of_text))]

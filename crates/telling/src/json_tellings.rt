@@ -8,16 +8,15 @@ use crate::given::Given;
 use crate::json_batches::{write_closing_json, write_held_json, write_opening_json};
 use crate::json_begins::write_begin_json;
 use crate::json_rows::write_row_json;
-use crate::marks::byte_at;
 use crate::names::{step_name, step_number};
 use crate::row_ends::End;
-use crate::shown::write_escaped;
 use bounded_io::TextWriter;
 use domains::Fleet;
 use play_model::Play;
 use recap::{host_name, write_field};
 use roll_core::News;
 use std::io::Write;
+use terminal_text::{byte_at, write_escaped};
 
 /// Writes what is told of what happened.
 pub(crate) fn write_telling_json<W: Write>(

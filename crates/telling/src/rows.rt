@@ -6,12 +6,12 @@ ghost use Rattle.telling.specs.Rows as spec;
 
 use crate::given::Given;
 use crate::row_ends::{End, verdict_word, write_how};
-use crate::shown::{write_output, write_shown};
 use bounded_io::TextWriter;
 use host_track::{Judged, Outcome};
 use local_programs::Remark;
 use recap::write_field;
 use std::io::Write;
+use terminal_text::{write_output, write_shown};
 
 /// Writes the name of a step, which ends a line.
 #[tactic(auto, using(bounded_io::proofs::Pieces::pieces_of_text))]

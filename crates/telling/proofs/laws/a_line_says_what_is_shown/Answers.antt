@@ -1,5 +1,0 @@
-use Rattle.telling.proofs.ReadingLemmas.{line_says}
-use Rattle.telling.proofs.laws.a_line_says_what_is_shown.Goals as goal
-
-pub returns : goal.returns
-returns c = line_says

@@ -1,5 +1,0 @@
-use Rattle.telling.proofs.ReadingLemmas.{text_says}
-use Rattle.telling.proofs.laws.a_text_says_what_is_shown.Goals as goal
-
-pub returns : goal.returns
-returns c = text_says
