@@ -103,7 +103,7 @@ _rollout_files() {
 
 _rollout() {
     local words kept redirects current command options most files=0 inventory='' ends='' wants='' option='' i
-    local rules='repeated-key near-key group-down zero-limit empty-limit loose-limit unfilled-placeholder no-hosts unlimited-hosts local-command undefined-name unknown-group idle-step idle-handler changed-guard shell-word dash-name long-word down-hosts one-failure'
+    local rules='repeated-key near-key group-down zero-limit empty-limit loose-limit unfilled-placeholder no-hosts unlimited-hosts local-command undefined-name unknown-group constant-test idle-step idle-handler changed-guard shell-word dash-name down-hosts one-failure'
     local IFS=$' \t\n'
     COMPREPLY=()
     _rollout_words

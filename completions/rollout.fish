@@ -72,7 +72,7 @@ end
 
 # The rules of lint.
 function __rollout_rules
-    string split ' ' 'repeated-key near-key group-down zero-limit empty-limit loose-limit unfilled-placeholder no-hosts unlimited-hosts local-command undefined-name unknown-group idle-step idle-handler changed-guard shell-word dash-name long-word down-hosts one-failure'
+    string split ' ' 'repeated-key near-key group-down zero-limit empty-limit loose-limit unfilled-placeholder no-hosts unlimited-hosts local-command undefined-name unknown-group constant-test idle-step idle-handler changed-guard shell-word dash-name down-hosts one-failure'
 end
 
 # The numbers of faults, with their names.

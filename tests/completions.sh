@@ -83,7 +83,7 @@ all | rollout explain 301 3<Tab> | rollout explain 301 3_
 all | rollout explain un<Tab> | /undefined-name/unfilled-placeholder/unknown-group/unlimited-hosts
 all | rollout explain unk<Tab> | rollout explain unknown-group _
 all | rollout explain idle-<Tab> | /idle-handler/idle-step
-all | rollout explain lo<Tab> | /local-command/long-word/loose-limit
+all | rollout explain lo<Tab> | /local-command/loose-limit
 all | rollout explain idle-step z<Tab> | rollout explain idle-step z_
 all | rollout explain qx<Tab> | rollout explain qx_
 all | rollout lint --allow no-h<Tab> i<Tab> | rollout lint --allow no-hosts inv.json _

@@ -263,7 +263,7 @@ listed() {
     echo 'rollout lint i>inv.json'
     echo 'rollout lint --allow a inv.json p>play.json'
     echo 'rollout lint inv.json play.json i>'
-    echo 'rollout lint --allow >repeated-key/near-key/group-down/zero-limit/empty-limit/loose-limit/unfilled-placeholder/no-hosts/unlimited-hosts/local-command/undefined-name/unknown-group/idle-step/idle-handler/changed-guard/shell-word/dash-name/long-word/down-hosts/one-failure'
+    echo 'rollout lint --allow >repeated-key/near-key/group-down/zero-limit/empty-limit/loose-limit/unfilled-placeholder/no-hosts/unlimited-hosts/local-command/undefined-name/unknown-group/constant-test/idle-step/idle-handler/changed-guard/shell-word/dash-name/down-hosts/one-failure'
     echo 'rollout lint inv.json --allow n>near-key/no-hosts'
     echo 'rollout explain qx>'
     echo 'rollout explain d>down-hosts/dash-name'

@@ -1,6 +1,6 @@
 """Drawn inventories and plays of which `lint` has something to say: names that some hosts have, all or none, and some ask for behind a guard; results that are read before and behind the step that registers them; handlers that
-no task notifies; words of a shell; limits at which no host may be down, or above the number of hosts; variables of groups that are nearly keys; hosts whose names begin with a dash; programs here and elsewhere, words that are too
-long, and conditions for values and groups that no host has; keys that stand more than once; names that are nearly others, results of other plays and of handlers. And some files with faults, beside which nothing is told."""
+no task notifies; words of a shell; limits at which no host may be down, or above the number of hosts; variables of groups that are nearly keys; hosts whose names begin with a dash; programs here and elsewhere,
+conditions for values and groups that no host has, and tests that come out the same each time; keys that stand more than once; names that are nearly others, results of other plays and of handlers. And some files with faults, beside which nothing is told."""
 
 import re
 from copy import deepcopy
@@ -47,7 +47,7 @@ VAIN = [
 ]
 UNLIKE = [
     "{0}.rc == '0'", "{0}.stdout != 0", "0 == {0}.stderr", "{0}.failed == 'True'", "{0}.changed != 1", "true == {0}.rc", "1 == '1'", "true != 'true'", "inventory_hostname == 1",
-    "{0}.rc == {0}.stdout", "{0}.skipped == inventory_hostname", "{0} == 1 or not ({1}.rc == 'a' and {0})", "{0}.stdout == inventory_hostname", "{0}.rc == {1}", "'1' == {0}", "{0}.failed != false",
+    "{0}.rc == {0}.stdout", "{0}.skipped == inventory_hostname", "{0} == 1 or not ({1}.rc == 'a' and {0})", "{0}.stdout == inventory_hostname", "{0}.rc == {1}", "'1' == {0}", "{0}.rc == '0' or {1}.stdout != 0",
     "{0}.rc == -1", "inventory_hostname == {0}.rc",
 ]
 # What a member that is lost may be, and keys that show how keys are printed.
@@ -57,7 +57,7 @@ HOSTNAMES = ["inventory_hostnam", "inventory_hostnames", "Inventory_Hostname", "
 # Scripts, whole and torn, what stands before them, and what is for a shell.
 SCRIPTS = ["systemctl restart web", "a b", "a c", "'systemctl restart web'", "\"a b\"", "{{ v }}", "{{ v }} x", "a{b c", "a {{ v }}", "uptime", "\ta", " 'a b'", "a\tb", "a\u00a0b"]
 OPTIONS = ["-c", "-c", "-lc", "-ec", "-xc", "-C", "--c", "-cx", "c", "-e"]
-EXPANDED = ["$HOME", "a$HOME/b", "${HOME}", "$(date)", "$1", "$", "$$x", "${1}", "$ {x}", "~/x", "~x", "a~/x", "$HOME x", "~/a b", "$\u00e9", "${{ v }}", "$_x", "{$x", "'$x'"]
+EXPANDED = ["$HOME", "a$HOME/b", "${HOME}", "$(date)", "$1", "$", "$$x", "${1}", "$ {x}", "~/x", "~x", "a~/x", "$HOME x", "~/a b", "$\u00e9", "${{ v }}", "$_x", "{$x", "'$NF x'"]
 BLANKS = ["systemctl restart", " true", "{{ v }} x", "a\tb", "ssh -n", "/opt/my app/x", "a\u00a0b", "x{ y"]
 HELD = ["{{ v }}", "x{{ v }}", "{% if x %}", "a{#b", "{ {", "{x}", "}}", "{", "{{", "plain"]
 WORDS = ["a", "--", "--", "-", "-n", "x=1", ">&2", "2>", "a;", "|a", "{", "}}", "$v", "*", *SHELL_WORDS]
@@ -76,8 +76,6 @@ class LintedStyle(AnyStyle):
         words = ["".join(_part(random) for _ in range(random.choice([1, 1, 1, 2]))) for _ in range(random.choice([1, 2, 2, 3, 4]))]
         if random.random() < 0.4:
             words.insert(0, random.choice(PROGRAMS))
-        if random.random() < 0.01:
-            words.insert(random.randint(0, len(words)), _long(random))
         if random.random() < 0.5:
             return " ".join(words)
         return Members([("argv", [*words, random.choice([7, -1])] if random.random() < 0.1 else words)])
@@ -100,11 +98,6 @@ def _formed(random, forms):
     """One of these forms, with names in it."""
     names = [name for name in NAMES if name != "inventory_hostname"]
     return random.choice(forms).format(*random.choices(names, k=2))
-
-
-def _long(random):
-    """A word of about as many bytes as a program may be given, some with a hole."""
-    return random.choice(["", "", "{{ v }}", "\u00e9"]) + "x" * random.choice([65_533, 65_535, 65_536, 65_537, 70_000])
 
 
 def _part(random):
@@ -305,19 +298,21 @@ def _with_results_of_handlers(random, play):
     return Members([*held, ("handlers", [*(dict(play).get("handlers") or []), *told, last])])
 
 
+def _with_failures(random, play):
+    """The same play, in some of which a step more may fail, and one asks for that."""
+    if random.random() < 0.85:
+        return play
+    judged = random.choice([[], [], [("ignore_errors", True)], [("failed_when", "end.rc == 9")]])
+    when = random.choice(["end is failed", "end.rc != 0", "not end.rc != 0", "1 == end.rc", "end.rc == 2 or r.rc == '0'", "end.rc == 0 and end is not failed"])
+    steps = [Members([("command", "true"), ("register", "end"), *judged]), Members([("command", "true"), (random.choice(["when", "when", "changed_when"]), when)])]
+    return Members((key, [*part, *steps] if key == "tasks" else part) for key, part in play)
+
+
 def _with_script(random):
     words = [random.choice(BLANKS)] if random.random() < 0.2 else random.choice([["ssh", "--", "{{ inventory_hostname }}"], ["ssh", "{{ inventory_hostname }}", "sudo"], ["true"], ["-c"]])
-    for _ in range(random.choice([1, 1, 2, 3])):
+    for _ in range(random.choice([1, 2, 3, 3])):
         words = [*words, *random.choice([["sh"], []]), random.choice(OPTIONS), random.choice(SCRIPTS)] if random.random() < 0.7 else [*words, random.choice(EXPANDED)]
     return Members([("command", Members([("argv", words)]))])
-
-
-def _with_a_long_target(random, play):
-    """The same play, in few of which a step more calls `ssh` with a word that is too long, or just not."""
-    if random.random() < 0.97:
-        return play
-    step = Members([("command", Members([("argv", ["ssh", "x" * random.choice([65_536, 65_537])])]))])
-    return Members((key, [*part, step] if key == "tasks" else part) for key, part in play)
 
 
 def _of_words(program, command):
@@ -361,7 +356,8 @@ def _with_key(given, random):
 
 # How plays are changed one after the other, each with the name by which its chances are drawn.
 CHANGES = {
-    "options": _with_ends_of_options, "nothing": _saying_nothing, "target": _with_a_long_target, "scripts": _with_scripts, "near": _with_near_names, "asked": with_asked_in_vain, "results": _with_results_of_handlers,
+    "options": _with_ends_of_options, "nothing": _saying_nothing, "scripts": _with_scripts, "near": _with_near_names, "asked": with_asked_in_vain, "results": _with_results_of_handlers,
+    "failures": _with_failures,
 }
 
 
@@ -379,9 +375,3 @@ def _lists(random):
             value = random.choice(["", ",", " : ,"])
         words += [f"--allow={value}"] if random.random() < 0.4 else ["--allow", value]
     return words
-
-
-# How plays are changed one after the other, each with the name by which its chances are drawn.
-CHANGES = {
-    "options": _with_ends_of_options, "nothing": _saying_nothing, "target": _with_a_long_target, "scripts": _with_scripts, "near": _with_near_names, "asked": with_asked_in_vain, "results": _with_results_of_handlers,
-}

@@ -8,6 +8,10 @@ from words import Ref, parts
 
 # Programs that change the machine on which they run.
 OF_THE_HOST = ("systemctl", "service", "apt", "apt-get", "yum", "dnf", "docker", "reboot", "shutdown")
+# Programs that talk to another machine, only wait, or only tell: the same command may serve all hosts.
+SERVING_ALL = (
+    "curl", "wget", "kubectl", "helm", "consul", "nomad", "vault", "aws", "gcloud", "az", "psql", "mysql", "redis-cli", "sleep", "true", "false", "test", "echo", "printf", "date",
+)
 
 
 def base(word):
@@ -53,19 +57,28 @@ def is_ssh(step):
     return base(words[0]) == "ssh"
 
 
-def names_its_host(step, known, scene):
+def results_of(scene):
+    """Of the names under which steps of a play register results, whether these may differ between the hosts: where a word of such a step does."""
+    found = {}
+    for step in scene.play.tasks + scene.play.handlers:
+        if step.register is not None:
+            found[step.register] = (found.get(step.register, False) and not turned("lint-each-result-of-a-name-counts")) or names_its_host(step, found, scene)
+    return found
+
+
+def names_its_host(step, results, scene):
     """Whether a word of a step differs between the hosts that wait for its play."""
     words = step.words[:1] if turned("lint-any-word-may-differ") else step.words
-    return any(isinstance(part, Ref) and _differs(part.name, known, scene) for word in words for part in parts(word))
+    return any(isinstance(part, Ref) and _differs(part.name, results, scene) for word in words for part in parts(word))
 
 
-def _differs(name, known, scene):
+def _differs(name, results, scene):
     if turned("lint-placeholders-differ"):
         return True
     if name == "inventory_hostname":
         return len(scene.waiting) > 1
-    if name in known:
-        return not turned("lint-results-differ")
+    if name in results:
+        return (results[name] or turned("lint-results-of-one-command-are-one")) and not turned("lint-results-differ")
     held = [scene.variables[host].get(name) for host in scene.waiting]
     if turned("lint-who-lacks-differs"):
         held = [value for value in held if value is not None]
@@ -74,16 +87,18 @@ def _differs(name, known, scene):
     return len({(type(value), by_bytes(value) if isinstance(value, str) else value) for value in held}) > 1
 
 
-def of_step(at, step, known, scene, running):
-    """Of a step: that it does the same for each of several hosts, on this machine, or all of them at one target by `ssh`. `known` are the results of steps before, and `running` hosts that may run it."""
-    if names_its_host(step, known, scene) or not _are_several(running):
+def of_step(at, step, scene, running):
+    """Of a step: that it does the same for each of several hosts, on this machine, or all of them at one target by `ssh`. `running` are the hosts that may run it."""
+    if names_its_host(step, scene.results, scene) or not _are_several(running):
         return [None, None]
     if is_ssh(step):
         return [None, f"local-command {at} hosts={len(running)}"]
     program = seen_through(step.words)[0]
     steps = scene.play.tasks if turned("lint-handlers-go-elsewhere-too") else scene.play.tasks + scene.play.handlers
-    is_of_host = (program if turned("lint-paths-lead-to-such-programs") else program.split("/")[-1]) in OF_THE_HOST and not turned("lint-some-programs-are-of-the-host")
-    is_told = is_of_host or any(is_ssh(other) for other in steps)
+    name = program if turned("lint-paths-lead-to-such-programs") else program.split("/")[-1]
+    is_of_host = name in OF_THE_HOST and not turned("lint-some-programs-are-of-the-host")
+    serves_all = name in SERVING_ALL and not turned("lint-some-programs-serve-all")
+    is_told = is_of_host or (any(is_ssh(other) for other in steps) and not serves_all)
     return [f"local-command {at} word={printed(program)}" if is_told else None, None]
 
 
@@ -96,20 +111,12 @@ def of_play(scene, waiting, notes):
     if any(note is not None and note.startswith("local-command ") for note in notes) and not turned("lint-told-steps-hide-their-play"):
         return None
     asks = any(_asks(tree) for step in steps for tree in step.when or []) and not turned("lint-conditions-make-steps-be-for-a-host")
-    is_for_hosts = asks or any(names_its_host(step, known, scene) for step, known in zip(steps, _known_before(scene)))
+    is_for_hosts = asks or any(names_its_host(step, scene.results, scene) for step in steps)
     return f"local-command play={scene.number + 1} hosts={len(waiting)}" if _are_several(waiting) and not is_for_hosts else None
 
 
 def _are_several(hosts):
     return len(hosts) > (0 if turned("lint-one-host-has-one-place") else 1)
-
-
-def _known_before(scene):
-    """Of each step of a play the results that steps before it register."""
-    known = set(scene.earlier)
-    for step in scene.play.tasks + scene.play.handlers:
-        yield set(known)
-        known |= {step.register} - {None}
 
 
 def _asks(tree):

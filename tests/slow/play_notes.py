@@ -4,7 +4,7 @@ from course import next_boundary
 from faults import by_bytes
 from fleet_notes import printed
 from hosts import layered
-from local_commands import of_play
+from local_commands import of_play, results_of
 from missing import Outset
 from planning import Plan, start
 from rules import turned
@@ -21,7 +21,7 @@ class Scene:
     def __init__(self, fleet, plays, number, waiting, variables, earlier, outset_of):
         self.fleet, self.plays, self.number, self.play = fleet, plays, number, plays[number]
         self.waiting, self.variables, self.earlier, self.outset_of = waiting, variables, earlier, outset_of
-        self.given, self.values = _given(fleet, plays), _values(fleet, waiting, variables)
+        self.given, self.values, self.results = _given(fleet, plays), _values(fleet, waiting, variables), results_of(self)
 
 
 def of_plays(fleet, plays, targets):

@@ -5,20 +5,22 @@ from dataclasses import replace
 from functools import partial
 
 from compared import first_placeholder, unknown_host
-from conditions import tests_in
+from conditions import Contrary, tests_in
 from faults import by_bytes
-from fleet_notes import is_literal, printed
+from fleet_notes import printed
 from local_commands import is_ssh, of_step
 from missing import is_known_not_to_hold, missed_by
 from nearness import nearest
 from needing import in_conditions, in_words
 from rules import turned
-from words import LONGEST, Ref, parts
+from words import Ref, parts
 
 # Names that are searched for one that was probably meant are at most so long.
 LONGEST_NEAR = 64
 # Behind these a program reads a script, which is one word.
 SCRIPT_OPTIONS = ("-c", "-lc", "-ec", "-xc")
+# The kinds of values that the fields of a result have; of all others it is a truth value.
+TYPES = {"rc": int, "stdout": str, "stderr": str}
 SHELL_WORDS = ("|", "||", "&", "&&", ";", ">", ">>", "<", "2>&1")
 
 
@@ -35,19 +37,17 @@ def of_steps(scene):
             before = play.handlers[: place - len(play.tasks)]
         if turned("lint-handlers-register-for-handlers"):
             before = [other for other in before if other in play.tasks]
-        found += _of_step(at, step, scene, scene.earlier | registered_by(before), partial(scene.outset_of, scene.number, place), of == "handlers")
+        found += _of_step(at, step, scene, scene.earlier | registered_by(before), partial(scene.outset_of, scene.number, place), play.tasks[:place], of == "handlers")
     return found
 
 
-def _of_step(at, step, scene, known, outset, is_handler):
-    """Of one step, of which steps before it register the results `known`, and `outset` is what is known of a host that comes to it."""
+def _of_step(at, step, scene, known, outset, tasks, is_handler):
+    """Of one step, of which steps before it register the results `known`, `outset` is what is known of a host that comes to it, and these are the tasks before it."""
     names, results = _names_notes(at, step, known, scene, outset), _results_notes(at, step, known, scene.waiting, outset)
     names = results + names if turned("lint-names-before-results") else names + results
-    conditions = _conditions_notes(at, step, scene, outset)
+    conditions = _conditions_notes(at, step, scene, outset, tasks)
     running = [host for host in scene.waiting if turned("lint-who-skips-is-not-counted") or not is_known_not_to_hold(step.when, outset(host))]
-    words = [_shell_note(at, step), _program_note(at, step), _script_note(at, step), *of_step(at, step, known, scene, running), _long_note(at, step), _dash_note(at, step, scene.waiting)]
-    if turned("lint-targets-before-lengths"):
-        words[4:6] = words[5:3:-1]
+    words = [_shell_note(at, step), _program_note(at, step), _script_note(at, step), *of_step(at, step, scene, running), _dash_note(at, step, scene.waiting)]
     if turned("lint-programs-before-places"):
         words[1:4] = words[3:0:-1]
     words = words + conditions if turned("lint-condition-before-words") else conditions + words
@@ -96,7 +96,7 @@ def _names_notes(at, step, known, scene, outset_of):
 
 def _name_note(at, name, scene, lacking):
     """Nothing where no host that waits may read it undefined, so where none waits too. Of what no group or host has it isn't said which hosts read it."""
-    if not lacking and not (turned("lint-nobody-lacks-nothing") and not scene.waiting):
+    if not lacking:
         return None
     if len(lacking) == len(scene.waiting) or (name not in scene.values and not turned("lint-names-of-nobody-are-unknown")):
         others = [other for other in scene.given if len(by_bytes(other)) <= LONGEST_NEAR and (other != name or turned("lint-near-names-are-others"))]
@@ -135,11 +135,11 @@ def _read(step):
     return [name for names in found for name in names]
 
 
-def _conditions_notes(at, step, scene, outset_of):
+def _conditions_notes(at, step, scene, outset_of, tasks):
     """Of each condition of a step, and then whether any host runs it, and whether a change that is lost guards it."""
     keys = {"when": step.when, "changed_when": step.changed_when, "failed_when": step.failed_when}
     items = reversed(keys.items()) if turned("lint-conditions-in-their-order") else keys.items()
-    found = [_of_condition(f"{at} key={key}", key, trees, scene) for key, trees in items]
+    found = [_of_condition(f"{at} key={key}", key, trees, scene, tasks) for key, trees in items]
     if turned("lint-condition-by-condition"):
         found = zip(*found)
     of_each = [note for notes in found for note in notes]
@@ -149,14 +149,14 @@ def _conditions_notes(at, step, scene, outset_of):
     return of_all + of_each if turned("lint-each-condition-before-idle-steps") else of_each + of_all
 
 
-def _of_condition(at, key, trees, scene):
-    """Of one condition the first group and the first host for which it asks and that don't exist, and its first string with a placeholder."""
+def _of_condition(at, key, trees, scene, tasks):
+    """Of one condition the first group and the first host for which it asks and that don't exist, its first string with a placeholder, and the first result of which it asks what is always the same."""
     tests = [test for tree in trees or [] for test in tests_in(tree)]
-    notes = [_group_asked_note(at, key, tests, scene.fleet), _host_asked_note(at, key, trees, scene), _placeholder_note(at, key, trees)]
+    notes = [_group_asked_note(at, key, tests, scene.fleet), _host_asked_note(at, key, trees, scene), _placeholder_note(at, key, trees), _constant_note(at, key, trees, tasks)]
     if turned("lint-groups-before-hosts-of-conditions"):
         notes[:2] = notes[1::-1]
     if turned("lint-hosts-before-text-holes"):
-        notes[1:] = notes[:0:-1]
+        notes[1:3] = notes[2:0:-1]
     return notes
 
 
@@ -179,6 +179,49 @@ def _host_asked_note(at, key, trees, scene):
 def _placeholder_note(at, key, trees):
     text = None if key != "when" and turned("lint-text-holes-of-each-condition") else first_placeholder(trees)
     return None if text is None else f"unfilled-placeholder {at} word={printed(text)}"
+
+
+def _constant_note(at, key, trees, tasks):
+    """Of the first result a field of which is compared with a value of another kind, or of whose failure `when` asks though each task that registers it ends its host with it."""
+    ended = _ended(tasks) if key == "when" or turned("lint-own-failures-may-be-asked-for") else {}
+    names = []
+    for test, contrary, denied in [found for tree in trees or [] for found in _stated(tree)]:
+        names += _constants(test, contrary, {} if denied and not turned("lint-denied-failures-are-awaited-by-nobody") else ended)
+    return f"constant-test {at} name={names[-1 if turned('lint-first-constant-test') else 0]}" if names else None
+
+
+def _ended(tasks):
+    """Of the results that tasks register, whether each such task ends a host on which it fails."""
+    found = {}
+    for task in tasks:
+        if task.register is not None:
+            goes_on = (task.ignore_errors and not turned("lint-ignored-failures-are-there")) or (task.failed_when is not None and not turned("lint-judged-failures-are-there"))
+            found[task.register] = found.get(task.register, True) and not goes_on
+    return found
+
+
+def _stated(tree, denied=False):
+    """The tests of a condition, each with whether it asks for the contrary itself, and whether a `not` stands before it."""
+    if not isinstance(tree, tuple):
+        return [(("operand", tree), False, denied)]
+    kind, *rest = tree
+    if kind in ("or", "and"):
+        return [found for below in rest[0] for found in _stated(below, denied)]
+    if isinstance(tree, Contrary):
+        return [(rest[0], True, denied)]
+    return _stated(rest[0], True) if kind == "not" else [(tree, False, denied)]
+
+
+def _constants(test, contrary, ended):
+    """The results of which a test asks what is always the same."""
+    kind, *rest = test
+    if kind == "result":
+        return [rest[0]] if rest[1] == "failed" and not contrary and ended.get(rest[0]) else []
+    if kind != "same":
+        return []
+    pairs = [rest] if turned("lint-fields-on-either-side") else [rest, rest[::-1]]
+    pairs = [(own, other) for own, other in pairs if isinstance(own, Ref) and own.field and not isinstance(other, Ref)]
+    return [own.name for own, other in pairs if type(other) is not TYPES.get(own.field, bool) or (own.field == "rc" and (other == 0) == contrary and ended.get(own.name))]
 
 
 def _nowhere_note(at, step, outsets):
@@ -237,17 +280,18 @@ def _shell_note(at, step):
     """The first word behind the program that only a shell would read as something else; none where `ssh` gives it to a shell."""
     if is_ssh(step) and not turned("lint-a-shell-reads-behind-ssh"):
         return None
-    words = step.words if turned("lint-programs-are-no-words") else step.words[1:]
-    found = [word for word in words if word in SHELL_WORDS or _is_expanded(word)]
+    pairs = [(before in SCRIPT_OPTIONS and not turned("lint-scripts-are-for-shells"), word) for before, word in zip(["", *step.words], step.words)]
+    pairs = pairs if turned("lint-programs-are-no-words") else pairs[1:]
+    found = [word for scripted, word in pairs if word in SHELL_WORDS or _is_expanded(word, scripted)]
     if turned("lint-whole-words-alone"):
-        found = [word for word in words if word.startswith(SHELL_WORDS) or _is_expanded(word)]
+        found = [word for scripted, word in pairs if word.startswith(SHELL_WORDS) or _is_expanded(word, scripted)]
     return f"shell-word {at} word={printed(found[-1 if turned('lint-first-word') else 0])}" if found else None
 
 
-def _is_expanded(word):
-    """Whether a shell would replace `$NAME`, `${NAME}`, `$(..)`, or `~/` at the front. A word with whitespace is a script."""
+def _is_expanded(word, scripted):
+    """Whether a shell would replace `$NAME`, `${NAME}`, `$(..)`, or `~/` at the front. In a word with whitespace only three capital letters are a name, and none in a script."""
     if re.search(r"[ \t\n\r]", word) and not turned("lint-scripts-have-blanks"):
-        return False
+        return bool(re.search(r"\$[A-Z]" if turned("lint-short-names-are-of-programs") else r"\$[A-Z]{3}", word)) and not scripted
     is_at_home = word.startswith("~/") and not turned("lint-homes-are-for-shells")
     return is_at_home or bool(re.search(r"\$([A-Za-z_(]|\{[A-Za-z_])", word) and not turned("lint-variables-are-for-shells"))
 
@@ -274,13 +318,6 @@ def _is_torn(script):
     return bool(re.search(r"[ \t\n\r]", plain)) and (not script.startswith(("'", '"')) or turned("lint-quotes-keep-together"))
 
 
-def _long_note(at, step):
-    """Of the first word without placeholders that is longer than a program is given."""
-    lengths = [len(by_bytes(word)) for word in step.words if is_literal(word) or turned("lint-words-with-holes-may-be-short")]
-    found = [length for length in lengths if length > LONGEST]
-    return f"long-word {at} bytes={found[0]}" if found else None
-
-
 def _dash_note(at, step, waiting):
     """Of a word that begins with the host's name, behind the program and before a word `--`, where a waiting host's name begins with a dash."""
     words = step.words if turned("lint-the-program-is-no-option") else step.words[1:]
@@ -293,7 +330,13 @@ def _dash_note(at, step, waiting):
     return f"dash-name {at} host={dashed[-1 if turned('lint-first-dashed-host') else 0]}" if begin and dashed else None
 
 
+def _is_false(tree):
+    return tree is False or (isinstance(tree, tuple) and tree[0] == "operand" and tree[1] is False)
+
+
 def _idle_note(at, step, scene):
     """Of a handler: that no task of its play notifies it."""
     notifying = [task for other in scene.plays for task in other.tasks] if turned("lint-tasks-of-the-play-notify") else scene.play.tasks
+    if not turned("lint-what-never-changes-notifies-nobody"):
+        notifying = [task for task in notifying if not any(_is_false(tree) for tree in task.changed_when or [])]
     return None if any(step.name in task.notify for task in notifying) else f"idle-handler {at}"

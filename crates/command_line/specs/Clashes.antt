@@ -14,4 +14,4 @@ text_of WordsBeside = codes "error: --words doesn't go with --course, --groups, 
 text_of NoJson = codes "error: --json doesn't go with --groups, --picture, --from, --expect and --words\n"
 text_of StrictOfOthers = codes "error: --strict of a run doesn't go with --resume and --up\n"
 text_of NoColor = codes "error: --color has the values auto, always and never\n"
-text_of NoEntry = codes "error: explain goes with the number of a fault, as 302, or a kind of notes: repeated-key, near-key, group-down, zero-limit, empty-limit, loose-limit, unfilled-placeholder, no-hosts, unlimited-hosts, local-command, undefined-name, unknown-group, idle-step, idle-handler, changed-guard, shell-word, dash-name, long-word, down-hosts, one-failure\n"
+text_of NoEntry = codes "error: explain goes with the number of a fault, as 302, or a kind of notes: repeated-key, near-key, group-down, zero-limit, empty-limit, loose-limit, unfilled-placeholder, no-hosts, unlimited-hosts, local-command, undefined-name, unknown-group, constant-test, idle-step, idle-handler, changed-guard, shell-word, dash-name, down-hosts, one-failure\n"

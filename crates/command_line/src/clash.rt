@@ -58,7 +58,7 @@ impl Clash {
             }
             Clash::NoColor => "error: --color has the values auto, always and never\n",
             Clash::NoEntry => {
-                "error: explain goes with the number of a fault, as 302, or a kind of notes: repeated-key, near-key, group-down, zero-limit, empty-limit, loose-limit, unfilled-placeholder, no-hosts, unlimited-hosts, local-command, undefined-name, unknown-group, idle-step, idle-handler, changed-guard, shell-word, dash-name, long-word, down-hosts, one-failure\n"
+                "error: explain goes with the number of a fault, as 302, or a kind of notes: repeated-key, near-key, group-down, zero-limit, empty-limit, loose-limit, unfilled-placeholder, no-hosts, unlimited-hosts, local-command, undefined-name, unknown-group, constant-test, idle-step, idle-handler, changed-guard, shell-word, dash-name, down-hosts, one-failure\n"
             }
         }
     }

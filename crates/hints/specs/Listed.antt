@@ -27,8 +27,8 @@ unfoldable pub is_of_kinds : List ℕ → Bool
 is_of_kinds word = list_any (bytes_eq word) (
     codes "repeated-key" ∷ codes "near-key" ∷ codes "group-down" ∷ codes "zero-limit" ∷ codes "empty-limit" ∷ codes "loose-limit" ∷
     codes "unfilled-placeholder" ∷ codes "no-hosts" ∷ codes "unlimited-hosts" ∷ codes "local-command" ∷ codes "undefined-name" ∷
-    codes "unknown-group" ∷ codes "idle-step" ∷ codes "idle-handler" ∷ codes "changed-guard" ∷ codes "shell-word" ∷ codes "dash-name" ∷
-    codes "long-word" ∷ codes "down-hosts" ∷ codes "one-failure" ∷ [])
+    codes "unknown-group" ∷ codes "constant-test" ∷ codes "idle-step" ∷ codes "idle-handler" ∷ codes "changed-guard" ∷ codes "shell-word" ∷
+    codes "dash-name" ∷ codes "down-hosts" ∷ codes "one-failure" ∷ [])
 
 -- the word is one of those that have an entry
 abbrev pub has_entry : List ℕ → Bool

@@ -40,7 +40,7 @@ batch_notes fleet smallest number play =
 abbrev pub play_notes : FleetView → (Name → ℕ → Option Value) → (Name → Bool) → (ℕ → ℕ → Foreseen) → (Name → Bool) → Option ℕ → ℕ → Play → List Note
 play_notes fleet value gives foreseen is_earlier smallest number play =
     batch_notes fleet smallest (number + 1) play
-    ++ (noted (local_play_note is_earlier (crowd_for fleet value gives play) foreseen (number + 1) play)
+    ++ (noted (local_play_note (crowd_for fleet value gives play) foreseen (number + 1) play)
     ++ steps_notes is_earlier (crowd_for fleet value gives play) foreseen number play)
 
 -- The notes on each play after those before it; of each, the size of its smallest batch is given. What is foreseen of their steps is given by the play's number, the step's place and the host.

@@ -25,7 +25,9 @@ use missing_names::Registry;
 use note_lines::{Notes, Numbered, StepPath};
 use play_model::Play;
 use std::alloc::{AllocError, Allocator, Global};
-use step_notes::{Asked, Crowd, Lacks, Registered, Stand, list_given, local_play_note, note_step};
+use step_notes::{
+    Asked, Crowd, Lacks, Registered, Results, Stand, list_given, local_play_note, note_step,
+};
 
 /// Adds what is noted of the steps of a play, and the names under which they register results.
 fn note_steps<'a>(
@@ -89,23 +91,18 @@ fn note_local<'a>(
     notes: &mut Notes<'a>,
     crowd: &Crowd<'a, '_>,
     registry: &Registry<'a>,
-    registered: &Registered<'a>,
     numbered: Numbered<'a>,
 ) -> Result<(), AllocError>
     requires { numbered.number < 2 ^ 63 }
-    ensures { OnOk result (notes.new ≡ notes.old ++ noted (places.local_play_note (has_name registered.now) (crowd_of crowd.now)
+    ensures { OnOk result (notes.new ≡ notes.old ++ noted (places.local_play_note (crowd_of crowd.now)
         (foreseen_in registry.now.fleet.now registry.now.plays.now crowd.now.lacks.now.vars.now numbered.entry.number) (numbered.entry.number + 1) numbered.entry.play.now)) }
 {
-    let asked = Asked {
-        registered,
-        crowd: *crowd,
-        stand: Stand {
-            registry,
-            number: numbered.number,
-            place: 0,
-        },
+    let stand = Stand {
+        registry,
+        number: numbered.number,
+        place: 0,
     };
-    let note = local_play_note(alloc, &asked, numbered.number + 1, numbered.play)?;
+    let note = local_play_note(alloc, crowd, stand, numbered.number + 1, numbered.play)?;
     notes.add(note)
 }
 
@@ -134,18 +131,16 @@ fn note_play<'a>(
         play: numbered.play,
     };
     note_batches(notes, scene, &targets, from_one, smallest)?;
-    let lacks = Lacks::of(
-        alloc,
-        scene.vars,
-        targets.waiting.as_slice(),
-        scene.given,
-        numbered.play.steps(),
-    )?;
+    let steps = numbered.play.steps();
+    let waiting = targets.waiting.as_slice();
+    let lacks = Lacks::of(alloc, scene.vars, waiting, scene.given, steps)?;
+    let results = Results::of(alloc, &lacks, steps)?;
     let crowd = Crowd {
         fleet,
         lacks: &lacks,
+        results: &results,
     };
-    note_local(alloc, notes, &crowd, scene.registry, registered, numbered)?;
+    note_local(alloc, notes, &crowd, scene.registry, numbered)?;
     note_steps(alloc, notes, &crowd, scene.registry, registered, numbered)?;
     Ok(())
 }

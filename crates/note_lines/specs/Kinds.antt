@@ -4,7 +4,7 @@ use Rattle.std.specs.List.{list_all, list_any}
 use Rattle.group_tree.specs.Names.{Name, is_among, same_name}
 use Rattle.text_parts.specs.Patterns.{parts_of}
 use Rattle.note_lines.specs.declared.kind.Kind.{Kind}
-use Rattle.note_lines.specs.declared.kind.Kind.TheVariants.{RepeatedKey, NearKey, GroupDown, ZeroLimit, EmptyLimit, LooseLimit, UnfilledPlaceholder, NoHosts, UnlimitedHosts, LocalCommand, UndefinedName, UnknownGroup, IdleStep, IdleHandler, ChangedGuard, ShellWord, DashName, LongWord, DownHosts, OneFailure}
+use Rattle.note_lines.specs.declared.kind.Kind.TheVariants.{RepeatedKey, NearKey, GroupDown, ZeroLimit, EmptyLimit, LooseLimit, UnfilledPlaceholder, NoHosts, UnlimitedHosts, LocalCommand, UndefinedName, UnknownGroup, ConstantTest, IdleStep, IdleHandler, ChangedGuard, ShellWord, DashName, DownHosts, OneFailure}
 use Rattle.note_lines.specs.declared.rows.Severity.{Severity}
 use Rattle.note_lines.specs.declared.rows.Severity.TheVariants.{Info, Warning}
 
@@ -22,12 +22,12 @@ kind_name UnlimitedHosts = codes "unlimited-hosts"
 kind_name LocalCommand = codes "local-command"
 kind_name UndefinedName = codes "undefined-name"
 kind_name UnknownGroup = codes "unknown-group"
+kind_name ConstantTest = codes "constant-test"
 kind_name IdleStep = codes "idle-step"
 kind_name IdleHandler = codes "idle-handler"
 kind_name ChangedGuard = codes "changed-guard"
 kind_name ShellWord = codes "shell-word"
 kind_name DashName = codes "dash-name"
-kind_name LongWord = codes "long-word"
 kind_name DownHosts = codes "down-hosts"
 kind_name OneFailure = codes "one-failure"
 
@@ -39,7 +39,7 @@ severity kind = Warning
 
 -- in the order in which hints are printed
 abbrev pub all_kinds : List Kind
-all_kinds = RepeatedKey ∷ NearKey ∷ GroupDown ∷ ZeroLimit ∷ EmptyLimit ∷ LooseLimit ∷ UnfilledPlaceholder ∷ NoHosts ∷ UnlimitedHosts ∷ LocalCommand ∷ UndefinedName ∷ UnknownGroup ∷ IdleStep ∷ IdleHandler ∷ ChangedGuard ∷ ShellWord ∷ DashName ∷ LongWord ∷ DownHosts ∷ OneFailure ∷ []
+all_kinds = RepeatedKey ∷ NearKey ∷ GroupDown ∷ ZeroLimit ∷ EmptyLimit ∷ LooseLimit ∷ UnfilledPlaceholder ∷ NoHosts ∷ UnlimitedHosts ∷ LocalCommand ∷ UndefinedName ∷ UnknownGroup ∷ ConstantTest ∷ IdleStep ∷ IdleHandler ∷ ChangedGuard ∷ ShellWord ∷ DashName ∷ DownHosts ∷ OneFailure ∷ []
 
 -- a kind has this name
 abbrev pub is_kind_name : Name → Bool

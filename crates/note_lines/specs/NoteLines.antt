@@ -5,7 +5,7 @@ use Rattle.recap.specs.LimitsText.{field_text}
 use Rattle.recap.specs.Printable.{printed}
 use Rattle.note_lines.specs.Kinds.{kind_name}
 use Rattle.note_lines.specs.Notes.{Note, kind_of}
-use Rattle.note_lines.specs.Notes.{repeated_key, near_key, near_host_key, group_down, zero_limit, empty_limit, loose_limit, value_hole, host_value_hole, text_hole, no_hosts, unlimited_hosts, local_play, local_step, fixed_target, unknown_name, missing_name, missing_result, unknown_group, unknown_host, idle_step, idle_handler, changed_guard, shell_word, blank_program, lost_quotes, dash_name, long_word, down_hosts, one_failure}
+use Rattle.note_lines.specs.Notes.{repeated_key, near_key, near_host_key, group_down, zero_limit, empty_limit, loose_limit, value_hole, host_value_hole, text_hole, no_hosts, unlimited_hosts, local_play, local_step, fixed_target, unknown_name, missing_name, missing_result, unknown_group, unknown_host, constant_test, idle_step, idle_handler, changed_guard, shell_word, blank_program, lost_quotes, dash_name, down_hosts, one_failure}
 use Rattle.note_lines.specs.declared.document.Document.{Document}
 use Rattle.note_lines.specs.declared.document.Document.TheVariants.{Inventory, Playbook}
 use Rattle.note_lines.specs.declared.step_path.StepPath.{StepPath}
@@ -63,6 +63,7 @@ details (missing_name at name hosts waiting host) = step_text at (codes " name="
 details (missing_result at name hosts waiting host) = step_text at (codes " name=") name ++ missing_text hosts waiting host
 details (unknown_group at key group) = step_text at (codes " key=") key ++ named_text (codes " group=") group
 details (unknown_host at key host) = step_text at (codes " key=") key ++ named_text (codes " host=") host
+details (constant_test at key name) = step_text at (codes " key=") key ++ named_text (codes " name=") name
 details (idle_step at) = at_text at
 details (idle_handler at) = at_text at
 details (changed_guard at name) = step_text at (codes " name=") name
@@ -70,7 +71,6 @@ details (shell_word at word) = step_text at (codes " word=") word
 details (blank_program at word) = step_text at (codes " word=") word
 details (lost_quotes at word) = step_text at (codes " word=") word
 details (dash_name at host) = step_text at (codes " host=") host
-details (long_word at bytes) = at_text at ++ field_text (codes " bytes=") bytes
 details (down_hosts play hosts host) = field_text (codes " play=") play ++ (field_text (codes " hosts=") hosts ++ named_text (codes " host=") host)
 details (one_failure play percent size) = field_text (codes " play=") play ++ (field_text (codes " percent=") percent ++ field_text (codes " size=") size)
 

@@ -53,6 +53,8 @@ pub data Note : Type 0 where
   unknown_group : StepPath → Name → Name → Note
   -- a step with a condition under this key that compares the host's name with this one, which no host has
   unknown_host : StepPath → Name → Name → Note
+  -- a step with a condition under this key that asks of the field of this result what comes out the same whatever happens
+  constant_test : StepPath → Name → Name → Note
   -- a step whose condition holds on no waiting host
   idle_step : StepPath → Note
   -- a handler that no task notifies
@@ -67,8 +69,6 @@ pub data Note : Type 0 where
   lost_quotes : StepPath → Name → Note
   -- a waiting host whose name a program that the step runs takes for an option
   dash_name : StepPath → Name → Note
-  -- an argument of this many bytes, which are more than a program may be given
-  long_word : StepPath → ℕ → Note
   -- a play that names this many hosts which are down at the start, and the first of them
   down_hosts : ℕ → ℕ → Name → Note
   -- a play that one failure in a batch of this size stops, although this percentage of it may fail
@@ -95,6 +95,7 @@ kind_of (missing_name at name hosts waiting host) = kinds.UndefinedName
 kind_of (missing_result at name hosts waiting host) = kinds.UndefinedName
 kind_of (unknown_group at key group) = kinds.UnknownGroup
 kind_of (unknown_host at key host) = kinds.UnknownGroup
+kind_of (constant_test at key name) = kinds.ConstantTest
 kind_of (idle_step at) = kinds.IdleStep
 kind_of (idle_handler at) = kinds.IdleHandler
 kind_of (changed_guard at name) = kinds.ChangedGuard
@@ -102,7 +103,6 @@ kind_of (shell_word at word) = kinds.ShellWord
 kind_of (blank_program at word) = kinds.ShellWord
 kind_of (lost_quotes at word) = kinds.ShellWord
 kind_of (dash_name at host) = kinds.DashName
-kind_of (long_word at bytes) = kinds.LongWord
 kind_of (down_hosts play hosts host) = kinds.DownHosts
 kind_of (one_failure play percent size) = kinds.OneFailure
 
@@ -152,6 +152,7 @@ seen (notes.MissingName at name missing) = missing_name at name.now missing.host
 seen (notes.MissingResult at name missing) = missing_result at name.now missing.hosts missing.waiting missing.host.now
 seen (notes.UnknownGroup at key group) = unknown_group at key.now group.now
 seen (notes.UnknownHost at key host) = unknown_host at key.now host.now
+seen (notes.ConstantTest at key name) = constant_test at key.now name.now
 seen (notes.IdleStep at) = idle_step at
 seen (notes.IdleHandler at) = idle_handler at
 seen (notes.ChangedGuard at name) = changed_guard at name.now
@@ -159,6 +160,5 @@ seen (notes.ShellWord at word) = shell_word at word.now
 seen (notes.BlankProgram at word) = blank_program at word.now
 seen (notes.LostQuotes at word) = lost_quotes at word.now
 seen (notes.DashName at host) = dash_name at host.now
-seen (notes.LongWord at bytes) = long_word at bytes
 seen (notes.DownHosts play hosts host) = down_hosts play hosts host.now
 seen (notes.OneFailure play percent size) = one_failure play percent size

@@ -29,6 +29,8 @@ pub enum Kind {
     UndefinedName,
     /// A condition tests for a group or host that is not in the inventory.
     UnknownGroup,
+    /// A test of a result's field comes out the same whatever happens.
+    ConstantTest,
     /// A step's condition holds on no waiting host.
     IdleStep,
     /// No task notifies a handler.
@@ -39,8 +41,6 @@ pub enum Kind {
     ShellWord,
     /// A program might take a host's name for an option.
     DashName,
-    /// An argument is longer than a program accepts.
-    LongWord,
     /// A play names hosts that are down at the start.
     DownHosts,
     /// One failure in a batch of several hosts exceeds a percentage above 0.
@@ -60,12 +60,12 @@ const KINDS: &[Kind] = &[
     Kind::LocalCommand,
     Kind::UndefinedName,
     Kind::UnknownGroup,
+    Kind::ConstantTest,
     Kind::IdleStep,
     Kind::IdleHandler,
     Kind::ChangedGuard,
     Kind::ShellWord,
     Kind::DashName,
-    Kind::LongWord,
     Kind::DownHosts,
     Kind::OneFailure,
 ];

@@ -95,6 +95,11 @@ pub enum Note<'a> {
         key: &'a str,
         host: &'a str,
     },
+    ConstantTest {
+        at: StepPath,
+        key: &'a str,
+        name: &'a str,
+    },
     IdleStep {
         at: StepPath,
     },
@@ -120,10 +125,6 @@ pub enum Note<'a> {
     DashName {
         at: StepPath,
         host: &'a str,
-    },
-    LongWord {
-        at: StepPath,
-        bytes: usize,
     },
     DownHosts {
         play: usize,
@@ -170,6 +171,7 @@ impl Note<'_> {
             Note::MissingResult { .. } => Kind::UndefinedName,
             Note::UnknownGroup { .. } => Kind::UnknownGroup,
             Note::UnknownHost { .. } => Kind::UnknownGroup,
+            Note::ConstantTest { .. } => Kind::ConstantTest,
             Note::IdleStep { .. } => Kind::IdleStep,
             Note::IdleHandler { .. } => Kind::IdleHandler,
             Note::ChangedGuard { .. } => Kind::ChangedGuard,
@@ -177,7 +179,6 @@ impl Note<'_> {
             Note::BlankProgram { .. } => Kind::ShellWord,
             Note::LostQuotes { .. } => Kind::ShellWord,
             Note::DashName { .. } => Kind::DashName,
-            Note::LongWord { .. } => Kind::LongWord,
             Note::DownHosts { .. } => Kind::DownHosts,
             Note::OneFailure { .. } => Kind::OneFailure,
         }

@@ -96,13 +96,17 @@ impl Kind {
                 "unknown-group",
                 "the inventory has no such group or host, so the test never holds; fix the spelling",
             ),
+            Kind::ConstantTest => warning(
+                "constant-test",
+                "the answer is always the same: quote strings ('0') and no numbers; a step that fails ends its host without ignore_errors or failed_when",
+            ),
             Kind::IdleStep => warning(
                 "idle-step",
                 "the condition holds on no waiting host; compare its groups and values with the inventory (15 is a number, '15' a string)",
             ),
             Kind::IdleHandler => warning(
                 "idle-handler",
-                "no task of its play notifies this handler; fix the spelling of its name, or remove it",
+                "no task that may change something notifies this handler; fix the spelling of its name, or take out changed_when: false",
             ),
             Kind::ChangedGuard => warning(
                 "changed-guard",
@@ -115,10 +119,6 @@ impl Kind {
             Kind::DashName => warning(
                 "dash-name",
                 "the program takes this name for an option; write \"--\" before the argument, or rename the host",
-            ),
-            Kind::LongWord => warning(
-                "long-word",
-                "an argument of more than 65536 bytes fails the step; pass the program a file instead",
             ),
             Kind::DownHosts => info(
                 "down-hosts",

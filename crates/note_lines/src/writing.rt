@@ -162,6 +162,7 @@ fn write_details<W: Write>(text: &mut TextWriter<'_, W>, note: &Note<'_>)
         }
         Note::UnknownGroup { at, key, group } => write_keyed(text, at, key, (" group=", group)),
         Note::UnknownHost { at, key, host } => write_keyed(text, at, key, (" host=", host)),
+        Note::ConstantTest { at, key, name } => write_keyed(text, at, key, (" name=", name)),
         Note::IdleStep { at } => write_at(text, at),
         Note::IdleHandler { at } => write_at(text, at),
         Note::ChangedGuard { at, name } => write_step(text, at, " name=", name),
@@ -169,10 +170,6 @@ fn write_details<W: Write>(text: &mut TextWriter<'_, W>, note: &Note<'_>)
         Note::BlankProgram { at, word } => write_step(text, at, " word=", word),
         Note::LostQuotes { at, word } => write_step(text, at, " word=", word),
         Note::DashName { at, host } => write_step(text, at, " host=", host),
-        Note::LongWord { at, bytes } => {
-            write_at(text, at);
-            write_field(text, " bytes=", bytes as u64);
-        }
         Note::DownHosts { play, hosts, host } => {
             write_field(text, " play=", play as u64);
             write_field(text, " hosts=", hosts as u64);

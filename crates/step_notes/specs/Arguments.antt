@@ -1,23 +1,14 @@
 -- What is noted of the words that a program gets.
-use Rattle.std.specs.Prelude.{Bool, true, false, ◌&&◌, ◌||◌, nat_lt, if◌then◌else◌, Option, None, option_map, List, [], ◌∷◌, codes, drop, length}
+use Rattle.std.specs.Prelude.{Bool, true, false, ◌||◌, if◌then◌else◌, Option, None, option_map, List, [], ◌∷◌, codes, drop}
 use Rattle.std.specs.List.{find}
 use Rattle.group_tree.specs.Names.{Name, same_name}
 use Rattle.domains.specs.Numbered.{host_at}
-use Rattle.text_parts.specs.Faults.{max_rendered}
 use Rattle.text_parts.specs.Words.{Part, plain, hole, braces, whole, part, hostname, parts_of}
 use Rattle.play_model.specs.declared.step.Step.{Step}
-use Rattle.note_lines.specs.Notes.{Note, dash_name, long_word}
+use Rattle.note_lines.specs.Notes.{Note, dash_name}
 use Rattle.note_lines.specs.declared.step_path.StepPath.{StepPath}
-use Rattle.fleet_notes.specs.Holes.{is_literal}
 use Rattle.step_notes.specs.Hosts.{Crowd}
 use Rattle.step_notes.specs.Programs.{is_dashed}
-
--- a literal word that is longer than a program may be given
-abbrev pub is_long : Name → Bool
-is_long word = nat_lt max_rendered (length word) && is_literal word
-
-abbrev pub long_note : StepPath → Step → Option Note
-long_note at step = option_map (λ (word : Name). long_word at (length word)) (find is_long step.words)
 
 -- the word starts with a placeholder for the host's own name
 abbrev pub is_host : Part → Bool

@@ -1,9 +1,13 @@
 -- What the tests of a condition ask.
-use Rattle.std.specs.Prelude.{Bool, true, false, not, ◌&&◌, ◌||◌, Option}
+use Rattle.std.specs.Prelude.{Bool, true, false, not, ◌&&◌, ◌||◌, Option, None, Some}
 use Rattle.std.specs.List.{list_any}
 use Rattle.cond.specs.Grammar as grammar
 use Rattle.cond.specs.Grammar.{Operand, Test}
 use Rattle.cond.specs.declared.condition.Cond.{Cond}
+use Rattle.cond.specs.declared.condition.Part.{Part}
+use Rattle.cond.specs.declared.condition.Part.TheVariants as part
+use Rattle.cond.specs.declared.leaf.Operand.TheVariants as operand
+use Rattle.cond.specs.declared.leaf.Test.TheVariants as test
 use Rattle.step_notes.specs.Tests.{Stated, tests_if}
 use Rattle.step_notes.specs.declared.conditions.Question.{Question}
 use Rattle.step_notes.specs.declared.conditions.Question.TheVariants.{AsksHost, Matches, Switches}
@@ -60,3 +64,13 @@ is_matched when = has_test Matches when && not (has_test Switches when)
 
 abbrev pub asks_host : Option Cond → Bool
 asks_host = has_test AsksHost
+
+-- the part is `false`
+abbrev pub is_false : Part → Bool
+is_false (part.Test false bytes (test.Alone (operand.Truth false))) = true
+is_false other = false
+
+-- all its parts have to hold, and one of them is `false`
+abbrev pub never_holds : Option Cond → Bool
+never_holds None = false
+never_holds (Some condition) = list_any is_false condition.parts.items

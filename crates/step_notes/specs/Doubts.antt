@@ -1,4 +1,4 @@
--- Conditions that ask for what doesn't exist, and those by which a step runs only after a change.
+-- Conditions that ask for what doesn't exist, those that come out the same whatever happens, and those by which a step runs only after a change.
 use Rattle.std.specs.Prelude.{Bool, not, ◌||◌, if◌then◌else◌, Option, None, Some, option_map, List, [], ◌∷◌, ◌++◌, codes}
 use Rattle.std.specs.Option.{option_or}
 use Rattle.cond.specs.Grammar as grammar
@@ -11,11 +11,12 @@ use Rattle.group_tree.specs.Names.{Name, is_among}
 use Rattle.fleet_notes.specs.Holes.{has_opening}
 use Rattle.fleet_notes.specs.Namesakes.{is_group}
 use Rattle.play_model.specs.declared.step.Step.{Step}
-use Rattle.note_lines.specs.Notes.{Note, changed_guard, noted, text_hole, unknown_group, unknown_host}
+use Rattle.note_lines.specs.Notes.{Note, changed_guard, constant_test, noted, text_hole, unknown_group, unknown_host}
 use Rattle.note_lines.specs.declared.step_path.StepPath.{StepPath}
+use Rattle.step_notes.specs.Constants.{constant_in}
 use Rattle.step_notes.specs.Tests.{Stated, tests_if}
 use Rattle.step_notes.specs.declared.doubts.Doubt.{Doubt}
-use Rattle.step_notes.specs.declared.doubts.Doubt.TheVariants.{NamesNoGroup, NamesNoHost, HasHole, AsksChanged}
+use Rattle.step_notes.specs.declared.doubts.Doubt.TheVariants.{NamesNoGroup, NamesNoHost, HasHole, IsConstant, AsksChanged}
 
 -- the group for which the test asks, if it is none of these
 abbrev pub unknown_group_in : List Name → Test → Option Name
@@ -80,37 +81,41 @@ changed_in denied (grammar.equals left contrary right) = None
 changed_in denied (grammar.within group contrary) = None
 changed_in denied (grammar.alone operand) = None
 
--- the group, the host, the string or the result for which the test may not be meant
-abbrev pub doubted_in : Doubt → FleetView → Stated → Option Name
-doubted_in NamesNoGroup = λ fleet one. unknown_group_in fleet.groups one.test
-doubted_in NamesNoHost = λ fleet one. unknown_host_in fleet.hosts one.test
-doubted_in HasHole = λ fleet one. holed_in one.test
-doubted_in AsksChanged = λ fleet one. changed_in one.denied one.test
+-- the group, the host, the string or the result for which the test may not be meant; before its step come these tasks
+abbrev pub doubted_in : Doubt → FleetView → List Step → Stated → Option Name
+doubted_in NamesNoGroup = λ fleet tasks one. unknown_group_in fleet.groups one.test
+doubted_in NamesNoHost = λ fleet tasks one. unknown_host_in fleet.hosts one.test
+doubted_in HasHole = λ fleet tasks one. holed_in one.test
+doubted_in IsConstant = λ fleet tasks one. constant_in tasks one
+doubted_in AsksChanged = λ fleet tasks one. changed_in one.denied one.test
 
 -- the first such of some tests
-abbrev pub first_doubted : Doubt → FleetView → List Stated → Option Name
-first_doubted doubt fleet [] = None
-first_doubted doubt fleet (one ∷ tests) = option_or (doubted_in doubt fleet one) (first_doubted doubt fleet tests)
+abbrev pub first_doubted : Doubt → FleetView → List Step → List Stated → Option Name
+first_doubted doubt fleet tasks [] = None
+first_doubted doubt fleet tasks (one ∷ tests) = option_or (doubted_in doubt fleet tasks one) (first_doubted doubt fleet tasks tests)
 
 abbrev pub noted_doubt : Doubt → StepPath → Name → Name → Note
 noted_doubt NamesNoGroup = unknown_group
 noted_doubt NamesNoHost = unknown_host
 noted_doubt HasHole = text_hole
+noted_doubt IsConstant = constant_test
 noted_doubt AsksChanged = λ at key. changed_guard at
 
 -- of the condition under this key
-abbrev pub doubt_note : Doubt → FleetView → StepPath → Name → Option Cond → Option Note
-doubt_note doubt fleet at key condition = option_map (noted_doubt doubt at key) (first_doubted doubt fleet (tests_if condition))
+abbrev pub doubt_note : Doubt → FleetView → List Step → StepPath → Name → Option Cond → Option Note
+doubt_note doubt fleet tasks at key condition = option_map (noted_doubt doubt at key) (first_doubted doubt fleet tasks (tests_if condition))
 
-abbrev pub condition_notes : FleetView → StepPath → Name → Option Cond → List Note
-condition_notes fleet at key condition =
-    noted (doubt_note NamesNoGroup fleet at key condition) ++ (noted (doubt_note NamesNoHost fleet at key condition) ++ noted (doubt_note HasHole fleet at key condition))
+abbrev pub condition_notes : FleetView → List Step → StepPath → Name → Option Cond → List Note
+condition_notes fleet tasks at key condition =
+    noted (doubt_note NamesNoGroup fleet tasks at key condition) ++ (noted (doubt_note NamesNoHost fleet tasks at key condition)
+    ++ (noted (doubt_note HasHole fleet tasks at key condition) ++ noted (doubt_note IsConstant fleet tasks at key condition)))
 
-abbrev pub conditions_notes : FleetView → StepPath → Step → List Note
-conditions_notes fleet at step =
-    condition_notes fleet at (codes "when") step.when
-    ++ (condition_notes fleet at (codes "changed_when") step.changed_when ++ condition_notes fleet at (codes "failed_when") step.failed_when)
+-- what judges a step's own end may ask for its failure
+abbrev pub conditions_notes : FleetView → List Step → StepPath → Step → List Note
+conditions_notes fleet tasks at step =
+    condition_notes fleet tasks at (codes "when") step.when
+    ++ (condition_notes fleet [] at (codes "changed_when") step.changed_when ++ condition_notes fleet [] at (codes "failed_when") step.failed_when)
 
 -- the step runs only after a change
 abbrev pub changed_note : FleetView → StepPath → Step → Option Note
-changed_note fleet at step = doubt_note AsksChanged fleet at (codes "when") step.when
+changed_note fleet at step = doubt_note AsksChanged fleet [] at (codes "when") step.when

@@ -13,6 +13,7 @@ use Rattle.play_course.specs.PlayPlans.{targets}
 use Rattle.step_words.specs.Lines.{fresh}
 use Rattle.missing_names.specs.Spots.{missed_at, skipped_at}
 use Rattle.note_lines.specs.Notes.{Note, down_hosts, missing_name, missing_result, no_hosts, unknown_name}
+use Rattle.step_notes.specs.Differing.{named_by, words_differ}
 use Rattle.step_notes.specs.Lacks.{varies_among}
 use Rattle.step_notes.specs.Programs.{goes_elsewhere}
 use Rattle.note_lines.specs.declared.step_path.StepPath.{StepPath}
@@ -67,19 +68,24 @@ foreseen_of fleet plays hosts number place host = foreseen_with fleet plays numb
 abbrev pub missed_on : (ℕ → Foreseen) → ℕ → List Name
 missed_on foreseen host = (foreseen host).missed
 
--- the hosts that wait for a play, what names have on each host, whether the inventory gives them a value somewhere, and whether a step of the play calls `ssh`
+-- the hosts that wait for a play, what names have on each host, whether the inventory gives them a value somewhere, whether their values may differ between the hosts, and whether a step of the play calls `ssh`
 pub record Crowd : Type 0 where
   pub fleet : FleetView
   pub value : Name → ℕ → Option Value
   pub gives : Name → Bool
+  pub differs : Name → Bool
   pub elsewhere : Bool
   pub waiting : List ℕ
+
+abbrev pub are_several : List ℕ → Bool
+are_several waiting = nat_lt 1 (length waiting)
 
 abbrev pub crowd_for : FleetView → (Name → ℕ → Option Value) → (Name → Bool) → Play → Crowd
 crowd_for fleet value gives play = record {
   fleet = fleet;
   value = value;
   gives = gives;
+  differs = named_by (are_several (waiting_for fleet play)) (λ name. varies_among (value name) (waiting_for fleet play)) play.steps.items;
   elsewhere = goes_elsewhere play.steps.items;
   waiting = waiting_for fleet play;
 }
@@ -92,9 +98,9 @@ lacks crowd name host = is_none (crowd.value name host)
 abbrev pub is_lacked : Crowd → Name → Bool
 is_lacked crowd name = list_any (lacks crowd name) crowd.waiting
 
--- not all waiting hosts have the same value of the name
-abbrev pub varies : Crowd → Name → Bool
-varies crowd name = varies_among (crowd.value name) crowd.waiting
+-- a word differs between them
+abbrev pub name_host : Crowd → List Name → Bool
+name_host crowd = words_differ crowd.differs (are_several crowd.waiting)
 
 -- the step on the host may read the name undefined
 abbrev pub misses : (ℕ → List Name) → Name → ℕ → Bool

@@ -10,11 +10,15 @@ use Rattle.step_notes.specs.Hosts.{Crowd, Foreseen, foreseen_at, missed_on}
 use Rattle.step_notes.specs.NamesRead.{once_after}
 pub use Rattle.step_notes.specs.Given.{has_missed}
 pub use Rattle.step_notes.specs.Lacks.{lacks_in, value_in}
+use Rattle.step_notes.specs.Differing.{name_differs}
+use Rattle.step_notes.specs.Lacks.{varies_among}
 use Rattle.cond.specs.Trees.{written}
 use Rattle.step_notes.specs.Tests.{Stated}
 use Rattle.step_notes.specs.declared.tests.SpannedTest.{SpannedTest}
 use Rattle.step_notes.specs.declared.missed.Missed.{Missed}
 use Rattle.step_notes.specs.declared.crowd.Crowd as code
+use Rattle.step_notes.specs.declared.lacks.Lacks.{Lacks}
+use Rattle.step_notes.specs.declared.differing.Results.{Results}
 use Rattle.step_notes.specs.declared.stand.Stand.{Stand}
 use Rattle.step_notes.specs.declared.registered.Registered.{Registered}
 
@@ -48,18 +52,27 @@ with_fresh test before names = before ++ once_after before (filter test names)
 abbrev pub AreMissed : (ℕ → List Name) → List ℕ → List Missed → Type 0
 AreMissed missed hosts sets = map has_missed sets ≡ map (λ host name. is_among name (missed host)) hosts
 
+-- the names that were gathered
+abbrev pub has_name : Registered → Name → Bool
+has_name registered = has_missed registered.names
+
+-- not all waiting hosts have the same value of the name
+abbrev pub varies_in : Lacks → Name → Bool
+varies_in lacks name = varies_among (value_in lacks.vars.now name) lacks.waiting.now
+
+-- the value of the name may differ, by the results of the play's steps
+abbrev pub differs_in : Lacks → Results → Name → Bool
+differs_in lacks results = name_differs (has_name results.own) (has_name results.varied) (varies_in lacks)
+
 abbrev pub crowd_of : code.Crowd → Crowd
 crowd_of crowd = record {
   fleet = crowd.fleet.now;
   value = value_in crowd.lacks.now.vars.now;
   gives = has_missed crowd.lacks.now.given.now;
+  differs = differs_in crowd.lacks.now crowd.results.now;
   elsewhere = crowd.lacks.now.elsewhere;
   waiting = crowd.lacks.now.waiting.now;
 }
-
--- the names that were gathered
-abbrev pub has_name : Registered → Name → Bool
-has_name registered = has_missed registered.names
 
 abbrev pub names_of : List (Bor Name) → List Name
 names_of lent = map (λ (name : Bor Name). name.now) lent

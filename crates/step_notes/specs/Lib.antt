@@ -6,9 +6,11 @@ pub mod Tests
 pub mod Conditions
 pub mod Programs
 pub mod Arguments
+pub mod Differing
 pub mod Places
 pub mod Quoting
 pub mod ShellWords
+pub mod Constants
 pub mod Doubts
 pub mod Steps
 pub mod Lacks

@@ -94,3 +94,10 @@ abbrev pub changes_machine : Name → Bool
 changes_machine word =
     is_among (base_name word)
     (codes "systemctl" ∷ codes "service" ∷ codes "apt" ∷ codes "apt-get" ∷ codes "yum" ∷ codes "dnf" ∷ codes "docker" ∷ codes "reboot" ∷ codes "shutdown" ∷ [])
+
+-- programs that talk to another machine, only wait, or only tell: the same command may serve all hosts
+abbrev pub serves_all : Name → Bool
+serves_all word =
+    is_among (base_name word)
+    (codes "curl" ∷ codes "wget" ∷ codes "kubectl" ∷ codes "helm" ∷ codes "consul" ∷ codes "nomad" ∷ codes "vault" ∷ codes "aws" ∷ codes "gcloud" ∷ codes "az" ∷ codes "psql" ∷ codes "mysql" ∷ codes "redis-cli"
+    ∷ codes "sleep" ∷ codes "true" ∷ codes "false" ∷ codes "test" ∷ codes "echo" ∷ codes "printf" ∷ codes "date" ∷ [])

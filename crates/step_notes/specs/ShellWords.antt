@@ -1,13 +1,12 @@
 -- Words that mean something to a shell alone.
-use Rattle.std.specs.Prelude.{Bool, not, ◌==◌, ◌&&◌, ◌||◌, if◌then◌else◌, Option, None, option_map, List, [], ◌∷◌, codes, drop, slice_index}
-use Rattle.std.specs.List.{find}
+use Rattle.std.specs.Prelude.{ℕ, Bool, true, false, not, ◌==◌, ◌&&◌, ◌||◌, nat_le, if◌then◌else◌, Option, None, Some, option_map, List, [], ◌∷◌, codes, slice_index}
 use Rattle.group_tree.specs.Names.{Name, is_among}
 use Rattle.text_parts.specs.Words.{is_letter, starts}
 use Rattle.play_model.specs.declared.step.Step.{Step}
 use Rattle.fleet_notes.specs.Holes.{has_behind}
 use Rattle.note_lines.specs.Notes.{Note, shell_word}
 use Rattle.step_notes.specs.Programs.{calls_ssh}
-use Rattle.step_notes.specs.Quoting.{has_blank}
+use Rattle.step_notes.specs.Quoting.{has_blank, is_script_option}
 use Rattle.note_lines.specs.declared.step_path.StepPath.{StepPath}
 
 -- what a shell would not pass on as it is
@@ -18,25 +17,35 @@ shell_signs =
 unfoldable pub is_shell_sign : Name → Bool
 is_shell_sign word = is_among word shell_signs
 
--- `$` in front of a name, of a name in braces, or of a command in round brackets
-abbrev pub is_expansion : Name → Bool
-is_expansion word =
+abbrev pub is_capital : ℕ → Bool
+is_capital byte = nat_le 65 byte && nat_le byte 90
+
+-- `$` in front of a name, of a name in braces, or of a command in round brackets; in a word with blanks of three capital letters, since other programs have their own `$`, as `awk` has `$NF`
+abbrev pub is_expansion : Bool → Name → Bool
+is_expansion spaced word =
     slice_index word 0 == 36
-    && (is_letter (slice_index word 1) || slice_index word 1 == 40 || (slice_index word 1 == 123 && is_letter (slice_index word 2)))
+    && (if spaced then is_capital (slice_index word 1) && (is_capital (slice_index word 2) && is_capital (slice_index word 3))
+    else is_letter (slice_index word 1) || slice_index word 1 == 40 || (slice_index word 1 == 123 && is_letter (slice_index word 2)))
 
-abbrev pub has_expansion : Name → Bool
-has_expansion = has_behind is_expansion
+abbrev pub has_expansion : Bool → Name → Bool
+has_expansion spaced = has_behind (is_expansion spaced)
 
--- A shell would put something else in place of a part of the word: such a value, or a home at `~/` in front. A text with blanks is a script, for a program that reads it.
-abbrev pub is_expanded : Name → Bool
-is_expanded word = not (has_blank word) && (has_expansion word || starts 126 47 word)
+-- A shell would put something else in place of a part of the word: such a value, or a home at `~/` in front. Behind an option for a script a word with blanks is one.
+abbrev pub is_expanded : Bool → Name → Bool
+is_expanded scripted word = if has_blank word then not scripted && has_expansion true word else has_expansion false word || starts 126 47 word
 
-abbrev pub is_shell_word : Name → Bool
-is_shell_word word = is_shell_sign word || is_expanded word
+abbrev pub is_shell_word : Bool → Name → Bool
+is_shell_word scripted word = is_shell_sign word || is_expanded scripted word
 
--- the first such word behind the program
+-- the first such of the words that follow this one
+abbrev pub first_behind : Name → List Name → Option Name
+first_behind before [] = None
+first_behind before (word ∷ words) = if is_shell_word (is_script_option before) word then Some word else first_behind word words
+
+-- behind the program
 abbrev pub first_shell_word : List Name → Option Name
-first_shell_word words = find is_shell_word (drop 1 words)
+first_shell_word [] = None
+first_shell_word (program ∷ words) = first_behind program words
 
 -- behind `ssh` a shell at the other end reads them
 abbrev pub shell_note : StepPath → Step → Option Note

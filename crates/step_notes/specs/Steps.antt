@@ -8,8 +8,8 @@ use Rattle.play_model.specs.declared.play.Play.{Play}
 use Rattle.play_model.specs.declared.step.Step.{Step}
 use Rattle.note_lines.specs.Notes.{Note, idle_handler, idle_step, noted}
 use Rattle.needed_results.specs.Needs.{tasks_before}
-use Rattle.step_notes.specs.Arguments.{dash_note, long_note}
-use Rattle.step_notes.specs.Conditions.{is_matched}
+use Rattle.step_notes.specs.Arguments.{dash_note}
+use Rattle.step_notes.specs.Conditions.{is_matched, never_holds}
 use Rattle.step_notes.specs.Doubts.{changed_note, conditions_notes}
 use Rattle.step_notes.specs.Hosts.{Crowd, Foreseen, missed_on, misses, misses_by, name_note, skip_all}
 use Rattle.step_notes.specs.NamesRead.{names_asked}
@@ -20,9 +20,9 @@ use Rattle.step_notes.specs.ShellWords.{shell_note}
 use Rattle.note_lines.specs.declared.step_path.StepPath.{StepPath}
 
 abbrev pub notifies : ℕ → Step → Bool
-notifies handler task = has_number handler task.notify.items
+notifies handler step = has_number handler step.notify.items && not (never_holds step.changed_when)
 
--- a task of the play notifies the handler with this number
+-- a task of the play that may change something notifies the handler with this number
 abbrev pub is_notified : Play → ℕ → Bool
 is_notified play handler = list_any (notifies handler) (take play.tasks play.steps.items)
 
@@ -30,11 +30,11 @@ abbrev pub idle_note : Play → StepPath → Option Note
 idle_note play at = if at.is_handler && not (is_notified play at.place) then Some (idle_handler at) else None
 
 -- the notes on its words and its program
-abbrev pub words_notes : (Name → Bool) → Crowd → (ℕ → Foreseen) → StepPath → Step → List Note
-words_notes is_set crowd foreseen at step =
+abbrev pub words_notes : Crowd → (ℕ → Foreseen) → StepPath → Step → List Note
+words_notes crowd foreseen at step =
     noted (shell_note at step)
     ++ (noted (blank_note at step) ++ (noted (quotes_note at step)
-    ++ (noted (local_note is_set crowd foreseen at step) ++ (noted (target_note is_set crowd foreseen at step) ++ (noted (long_note at step) ++ noted (dash_note crowd at step))))))
+    ++ (noted (local_note crowd foreseen at step) ++ (noted (target_note crowd foreseen at step) ++ noted (dash_note crowd at step)))))
 
 -- no waiting host runs it, and its `when` asks whether a value or a group is the one: a step that a boolean switches off is off on purpose
 abbrev pub is_idle : Crowd → (ℕ → Foreseen) → Option Cond → Bool
@@ -59,6 +59,6 @@ abbrev pub notes_at : (Name → Bool) → Crowd → (ℕ → ℕ → Foreseen) �
 notes_at is_set crowd foreseen play place at step =
     name_notes is_set crowd (foreseen place) at step
     ++ (result_notes is_set crowd (foreseen place) (tasks_before play place) at step
-    ++ (conditions_notes crowd.fleet at step
+    ++ (conditions_notes crowd.fleet (tasks_before play place) at step
     ++ (noted (idle_step_note crowd (foreseen place) at step) ++ (noted (changed_note crowd.fleet at step)
-    ++ (words_notes is_set crowd (foreseen place) at step ++ noted (idle_note play at))))))
+    ++ (words_notes crowd (foreseen place) at step ++ noted (idle_note play at))))))

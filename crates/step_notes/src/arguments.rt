@@ -5,32 +5,9 @@ ghost use Rattle.step_notes.specs.Inside.{crowd_of};
 ghost use Rattle.note_lines.specs.Notes.{seen};
 
 use crate::crowd::Crowd;
-use fleet_notes::is_literal;
 use note_lines::{Note, StepPath};
 use play_model::{Step, Words};
-use text_parts::{MAX_RENDERED, Part, Ref, first_word_part};
-
-fn is_long(word: &str) -> bool
-    ensures { result ≡ model.is_long word.now }
-{
-    word.len() > MAX_RENDERED && is_literal(word)
-}
-
-/// Returns the note on the length of a step's words.
-pub(crate) fn long_note(at: StepPath, step: &Step) -> Option<Note<'static>>
-    ensures { option_map seen result ≡ model.long_note at step.now }
-{
-    let words = &step.words;
-    for place in 0..words.len() {
-        if is_long(words.at(place)) {
-            return Some(Note::LongWord {
-                at,
-                bytes: words.at(place).len(),
-            });
-        }
-    }
-    None
-}
+use text_parts::{Part, Ref, first_word_part};
 
 /// Whether the word starts with a placeholder for the host's own name.
 fn begins_with_host(word: &str) -> bool

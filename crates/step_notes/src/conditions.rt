@@ -6,8 +6,8 @@ ghost use Rattle.step_notes.specs.Conditions as model;
 ghost use Rattle.step_notes.specs.Inside.{said, said_all};
 
 use crate::tests::{SpannedTest, list_tests};
-use cond::Cond;
 use cond::leaf::{Operand, Test};
+use cond::{Cond, Part};
 use std::alloc::{AllocError, Global};
 
 /// A question about a test.
@@ -103,4 +103,27 @@ pub(crate) fn asks_host(alloc: Global, when: &Option<Cond>) -> Result<bool, Allo
 {
     let tests = list_tests(alloc, when)?;
     Ok(has_test(Question::AsksHost, tests.as_slice()))
+}
+
+fn is_false(part: Part) -> bool
+    ensures { result ≡ model.is_false part }
+{
+    matches!(
+        part,
+        Part::Test {
+            denied: false,
+            test: Test::Alone(Operand::Truth(false)),
+            ..
+        }
+    )
+}
+
+/// Whether the condition has a part that is `false`, though all have to hold.
+pub(crate) fn never_holds(condition: &Option<Cond>) -> bool
+    ensures { result ≡ model.never_holds condition.now }
+{
+    match condition {
+        Some(condition) => condition.parts.iter().any(|part| is_false(*part)),
+        None => false,
+    }
 }

@@ -9,6 +9,7 @@ ghost use Rattle.step_notes.specs.Arguments.{first_dashed};
 ghost use Rattle.step_notes.specs.Programs.{is_dashed};
 ghost use Rattle.domains.specs.Numbered.{host_at};
 
+use crate::differing::Results;
 use crate::lack::Lack;
 use crate::lacks::Lacks;
 use crate::programs::is_dashed;
@@ -17,11 +18,12 @@ use group_tree::HostId;
 use note_lines::{Missing, Note, StepPath};
 use recap::host_name;
 
-/// The waiting hosts, and what they have under names.
+/// The waiting hosts, what they have under names, and which results of the play may differ between them.
 #[derive(Clone, Copy)]
 pub struct Crowd<'a, 's> {
     pub fleet: &'a Fleet,
     pub lacks: &'s Lacks<'a, 's>,
+    pub results: &'s Results<'a>,
 }
 
 impl<'a> Crowd<'a, '_> {
@@ -30,13 +32,6 @@ impl<'a> Crowd<'a, '_> {
         ensures { result ≡ model.is_lacked (crowd_of self.now) name.now }
     {
         self.lacks.get(name).lack.is_some()
-    }
-
-    /// Whether not all waiting hosts have the same value of the name.
-    pub(crate) fn varies(&self, name: &str) -> bool
-        ensures { result ≡ model.varies (crowd_of self.now) name.now }
-    {
-        self.lacks.get(name).varies
     }
 
     /// Returns the note on a name that a step without conditions reads.

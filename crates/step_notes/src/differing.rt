@@ -1,56 +1,80 @@
-//! Words that differ between the hosts for which a step runs.
-ghost use Rattle.std.specs.Prelude.{◌≡◌, ◌||◌};
-ghost use Rattle.needed_results.specs.Registers.{is_registered_by};
-ghost use Rattle.text_parts.specs.Seen.{ref_said, said};
-ghost use Rattle.step_notes.specs.Inside.{crowd_of, has_name};
-ghost use Rattle.step_notes.specs.Places as model;
+//! What differs between the hosts that wait for a play.
+ghost use Rattle.std.specs.Prelude.{◌≡◌, IfOk};
+ghost use Rattle.group_tree.specs.Names.{Name};
+ghost use Rattle.text_parts.specs.Seen.{said};
+ghost use Rattle.step_notes.specs.Differing as model;
+ghost use Rattle.step_notes.specs.Differing.{named_by};
+ghost use Rattle.step_notes.specs.Hosts as hosts;
+ghost use Rattle.step_notes.specs.Hosts.{are_several};
+ghost use Rattle.step_notes.specs.Inside.{crowd_of, differs_in, varies_in};
 
 use crate::crowd::Crowd;
-use crate::registered::{Registered, is_registered_by};
+use crate::lacks::Lacks;
+use crate::registered::Registered;
 use cond::Names;
 use play_model::{Step, Words};
+use std::alloc::{AllocError, Global};
 use text_parts::{Part, Ref, first_word_part};
 
-/// The names that an earlier play registers, or one of these steps.
-#[derive(Clone, Copy)]
-pub(crate) struct SetBefore<'a, 's> {
-    pub(crate) registered: &'s Registered<'a>,
-    pub(crate) steps: &'s [Step],
+/// The names under which steps of a play register results, and those of results that may differ between the waiting hosts.
+#[derive(Drop)]
+pub struct Results<'a> {
+    pub(crate) own: Registered<'a>,
+    pub(crate) varied: Registered<'a>,
 }
 
-impl Names for SetBefore<'_, '_> {
-    ghost holds = { λ set name. has_name set.registered.now name || is_registered_by set.steps.now name };
-
-    fn has(&self, name: &str) -> bool {
-        self.registered.has(name) || is_registered_by(name, self.steps)
+impl<'a> Results<'a> {
+    /// Looks at each step, after those before it. Fails only if an allocation fails.
+    pub fn of(
+        alloc: Global,
+        lacks: &Lacks<'_, '_>,
+        steps: &'a [Step],
+    ) -> Result<Results<'a>, AllocError>
+        ensures { IfOk result (λ results. (name : Name) → differs_in lacks.now results name ≡ named_by (are_several lacks.now.waiting.now) (varies_in lacks.now) steps.now name) }
+    {
+        let mut results = Results {
+            own: Registered::new(alloc),
+            varied: Registered::new(alloc),
+        };
+        for step in steps {
+            results.own.add(step)?;
+        }
+        for step in steps {
+            if words_differ(lacks, &results, &step.words) {
+                results.varied.add(step)?;
+            }
+        }
+        Ok(results)
     }
 }
 
-/// Whether the placeholder's value may differ between two of the waiting hosts.
-fn differs<N: Names>(set: &N, crowd: &Crowd<'_, '_>, of: Ref<'_>) -> bool
-    ensures { result ≡ model.differs (N.holds set.now) (crowd_of crowd.now) (ref_said of.entry) }
+/// Whether the name has a result that may differ, or is none and not all waiting hosts have the same value of it.
+fn name_differs(lacks: &Lacks<'_, '_>, results: &Results<'_>, name: &str) -> bool
+    ensures { result ≡ differs_in lacks.now results.now name.now }
 {
-    match of {
-        Ref::Whole(name) | Ref::Field(name, _) => set.has(name) || crowd.varies(name),
-        Ref::Hostname => crowd.lacks.waiting.len() > 1,
+    if results.own.has(name) {
+        results.varied.has(name)
+    } else {
+        lacks.get(name).varies
     }
 }
 
-fn part_differs<N: Names>(set: &N, crowd: &Crowd<'_, '_>, part: Part<'_>) -> bool
-    ensures { result ≡ model.part_differs (N.holds set.now) (crowd_of crowd.now) (said part.entry) }
+fn part_differs(lacks: &Lacks<'_, '_>, results: &Results<'_>, part: Part<'_>) -> bool
+    ensures { result ≡ model.part_differs (differs_in lacks.now results.now) (are_several lacks.now.waiting.now) (said part.entry) }
 {
     match part {
-        Part::Hole(of) => differs(set, crowd, of),
+        Part::Hole(Ref::Whole(name) | Ref::Field(name, _)) => name_differs(lacks, results, name),
+        Part::Hole(Ref::Hostname) => lacks.waiting.len() > 1,
         Part::Plain(_) | Part::Braces => false,
     }
 }
 
-fn word_differs<N: Names>(set: &N, crowd: &Crowd<'_, '_>, word: &str) -> bool
-    ensures { result ≡ model.word_differs (N.holds set.now) (crowd_of crowd.now) word.now }
+fn word_differs(lacks: &Lacks<'_, '_>, results: &Results<'_>, word: &str) -> bool
+    ensures { result ≡ model.word_differs (differs_in lacks.now results.now) (are_several lacks.now.waiting.now) word.now }
 {
     let mut rest = word;
     while let Some((part, behind)) = first_word_part(rest) {
-        if part_differs(set, crowd, part) {
+        if part_differs(lacks, results, part) {
             return true;
         }
         rest = behind;
@@ -58,14 +82,20 @@ fn word_differs<N: Names>(set: &N, crowd: &Crowd<'_, '_>, word: &str) -> bool
     false
 }
 
-/// Whether one of the words differs between the hosts that wait, of whose names these are set by steps before.
-pub(crate) fn name_host<N: Names>(set: &N, crowd: &Crowd<'_, '_>, words: &Words) -> bool
-    ensures { result ≡ model.name_host (N.holds set.now) (crowd_of crowd.now) words.now }
+/// Whether one of the words differs between the hosts that wait.
+fn words_differ(lacks: &Lacks<'_, '_>, results: &Results<'_>, words: &Words) -> bool
+    ensures { result ≡ model.words_differ (differs_in lacks.now results.now) (are_several lacks.now.waiting.now) words.now }
 {
     for place in 0..words.len() {
-        if word_differs(set, crowd, words.at(place)) {
+        if word_differs(lacks, results, words.at(place)) {
             return true;
         }
     }
     false
+}
+
+pub(crate) fn name_host(crowd: &Crowd<'_, '_>, words: &Words) -> bool
+    ensures { result ≡ hosts.name_host (crowd_of crowd.now) words.now }
+{
+    words_differ(crowd.lacks, crowd.results, words)
 }

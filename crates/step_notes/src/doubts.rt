@@ -1,9 +1,10 @@
-//! The notes on conditions that ask for what doesn't exist, and on those by which a step runs only after a change.
-ghost use Rattle.std.specs.Prelude.{◌≡◌, ◌++◌, IfOk, OnOk, option_map};
+//! The notes on conditions that ask for what doesn't exist, on those that come out the same whatever happens, and on those by which a step runs only after a change.
+ghost use Rattle.std.specs.Prelude.{◌≡◌, ◌++◌, [], IfOk, OnOk, option_map};
 ghost use Rattle.note_lines.specs.Notes.{seen};
 ghost use Rattle.step_notes.specs.Doubts as model;
 ghost use Rattle.step_notes.specs.Inside.{said, said_all};
 
+use crate::constants::constant_in;
 use crate::misfits::{changed_in, holed_in, unknown_group, unknown_host};
 use crate::tests::{SpannedTest, list_tests};
 use cond::Cond;
@@ -21,27 +22,40 @@ pub(crate) enum Doubt {
     NamesNoHost,
     /// A string has a placeholder, which nothing fills.
     HasHole,
+    /// It comes out the same whatever happens.
+    IsConstant,
     /// It asks whether a step changed something, which a second attempt doesn't do again.
     AsksChanged,
 }
 
-fn doubted_in<'c>(doubt: Doubt, fleet: &Fleet, one: SpannedTest<'c>) -> Option<&'c str>
-    ensures { option_map (λ name. name.now) result ≡ model.doubted_in doubt fleet.now (said one.entry) }
+fn doubted_in<'c>(
+    doubt: Doubt,
+    fleet: &Fleet,
+    tasks: &[Step],
+    one: SpannedTest<'c>,
+) -> Option<&'c str>
+    ensures { option_map (λ name. name.now) result ≡ model.doubted_in doubt fleet.now tasks.now (said one.entry) }
 {
     match doubt {
         Doubt::NamesNoGroup => unknown_group(fleet, one),
         Doubt::NamesNoHost => unknown_host(fleet, one),
         Doubt::HasHole => holed_in(one),
+        Doubt::IsConstant => constant_in(tasks, one),
         Doubt::AsksChanged => changed_in(one),
     }
 }
 
-/// Returns the first name, or string, of which the tests make one doubt so.
-fn first_doubted<'c>(doubt: Doubt, fleet: &Fleet, tests: &[SpannedTest<'c>]) -> Option<&'c str>
-    ensures { option_map (λ name. name.now) result ≡ model.first_doubted doubt fleet.now (said_all tests.now) }
+/// Returns the first name, or string, of which the tests make one doubt so; before their step come these tasks.
+fn first_doubted<'c>(
+    doubt: Doubt,
+    fleet: &Fleet,
+    tasks: &[Step],
+    tests: &[SpannedTest<'c>],
+) -> Option<&'c str>
+    ensures { option_map (λ name. name.now) result ≡ model.first_doubted doubt fleet.now tasks.now (said_all tests.now) }
 {
     for one in tests {
-        if let Some(name) = doubted_in(doubt, fleet, *one) {
+        if let Some(name) = doubted_in(doubt, fleet, tasks, *one) {
             return Some(name);
         }
     }
@@ -67,6 +81,7 @@ fn noted<'c>(doubt: Doubt, at: StepPath, key: &'static str, name: &'c str) -> No
             key,
             text: name,
         },
+        Doubt::IsConstant => Note::ConstantTest { at, key, name },
         Doubt::AsksChanged => Note::ChangedGuard { at, name },
     }
 }
@@ -75,48 +90,66 @@ fn noted<'c>(doubt: Doubt, at: StepPath, key: &'static str, name: &'c str) -> No
 fn doubt_note<'c>(
     doubt: Doubt,
     fleet: &Fleet,
+    tasks: &[Step],
     at: StepPath,
     key: &'static str,
     tests: &[SpannedTest<'c>],
 ) -> Option<Note<'c>>
-    ensures { option_map seen result ≡ option_map (model.noted_doubt doubt at key.now) (model.first_doubted doubt fleet.now (said_all tests.now)) }
+    ensures { option_map seen result ≡ option_map (model.noted_doubt doubt at key.now) (model.first_doubted doubt fleet.now tasks.now (said_all tests.now)) }
 {
-    let name = first_doubted(doubt, fleet, tests)?;
+    let name = first_doubted(doubt, fleet, tasks, tests)?;
     Some(noted(doubt, at, key, name))
 }
 
-/// Adds the notes on the condition under this key.
+/// Adds the notes on a condition under its key.
 fn note_condition<'a>(
     alloc: Global,
     notes: &mut Notes<'a>,
     fleet: &Fleet,
+    tasks: &[Step],
     at: StepPath,
-    key: &'static str,
-    condition: &'a Option<Cond>,
+    keyed: (&'static str, &'a Option<Cond>),
 ) -> Result<(), AllocError>
-    ensures { OnOk result (notes.new ≡ notes.old ++ model.condition_notes fleet.now at key.now condition.now) }
+    ensures { OnOk result (notes.new ≡ notes.old ++ model.condition_notes fleet.now tasks.now at keyed.entry.0.now keyed.entry.1.now) }
 {
+    let (key, condition) = keyed;
     let listed = list_tests(alloc, condition)?;
     let tests = listed.as_slice();
-    notes.add(doubt_note(Doubt::NamesNoGroup, fleet, at, key, tests))?;
-    notes.add(doubt_note(Doubt::NamesNoHost, fleet, at, key, tests))?;
-    notes.add(doubt_note(Doubt::HasHole, fleet, at, key, tests))?;
+    notes.add(doubt_note(Doubt::NamesNoGroup, fleet, tasks, at, key, tests))?;
+    notes.add(doubt_note(Doubt::NamesNoHost, fleet, tasks, at, key, tests))?;
+    notes.add(doubt_note(Doubt::HasHole, fleet, tasks, at, key, tests))?;
+    notes.add(doubt_note(Doubt::IsConstant, fleet, tasks, at, key, tests))?;
     Ok(())
 }
 
-/// Adds the notes on a step's conditions, in sequence. Fails only if an allocation fails.
+/// Adds the notes on a step's conditions, in sequence; before it come these tasks. Fails only if an allocation fails.
 pub(crate) fn note_conditions<'a>(
     alloc: Global,
     notes: &mut Notes<'a>,
     fleet: &Fleet,
+    tasks: &[Step],
     at: StepPath,
     step: &'a Step,
 ) -> Result<(), AllocError>
-    ensures { OnOk result (notes.new ≡ notes.old ++ model.conditions_notes fleet.now at step.now) }
+    ensures { OnOk result (notes.new ≡ notes.old ++ model.conditions_notes fleet.now tasks.now at step.now) }
 {
-    note_condition(alloc, notes, fleet, at, "when", &step.when)?;
-    note_condition(alloc, notes, fleet, at, "changed_when", &step.changed_when)?;
-    note_condition(alloc, notes, fleet, at, "failed_when", &step.failed_when)?;
+    note_condition(alloc, notes, fleet, tasks, at, ("when", &step.when))?;
+    note_condition(
+        alloc,
+        notes,
+        fleet,
+        &[],
+        at,
+        ("changed_when", &step.changed_when),
+    )?;
+    note_condition(
+        alloc,
+        notes,
+        fleet,
+        &[],
+        at,
+        ("failed_when", &step.failed_when),
+    )?;
     Ok(())
 }
 
@@ -130,5 +163,5 @@ pub(crate) fn changed_note<'a>(
     ensures { IfOk result (λ note. option_map seen note ≡ model.changed_note fleet.now at step.now) }
 {
     let tests = list_tests(alloc, &step.when)?;
-    Ok(doubt_note(Doubt::AsksChanged, fleet, at, "when", tests.as_slice()))
+    Ok(doubt_note(Doubt::AsksChanged, fleet, &[], at, "when", tests.as_slice()))
 }

@@ -5,6 +5,7 @@ mod arguments;
 mod asked;
 mod asking;
 mod conditions;
+mod constants;
 mod crowd;
 mod differing;
 mod doubts;
@@ -28,6 +29,7 @@ mod tests;
 
 pub use asked::Asked;
 pub use crowd::Crowd;
+pub use differing::Results;
 pub use giving::list_given;
 pub use lacks::Lacks;
 pub use missed::Missed;

@@ -185,3 +185,34 @@ pub(crate) fn changes_machine(word: &str) -> bool
         || base == "reboot".as_bytes()
         || base == "shutdown".as_bytes()
 }
+
+const SERVE_ALL: &[&str] = &[
+    "curl",
+    "wget",
+    "kubectl",
+    "helm",
+    "consul",
+    "nomad",
+    "vault",
+    "aws",
+    "gcloud",
+    "az",
+    "psql",
+    "mysql",
+    "redis-cli",
+    "sleep",
+    "true",
+    "false",
+    "test",
+    "echo",
+    "printf",
+    "date",
+];
+
+/// Whether the program talks to another machine, only waits, or only tells.
+pub(crate) fn serves_all(word: &str) -> bool
+    ensures { result ≡ model.serves_all word.now }
+{
+    let base = base_name(word);
+    SERVE_ALL.iter().any(|name| base == name.as_bytes())
+}

@@ -50,7 +50,7 @@ pub(crate) fn blank_note<'a>(at: StepPath, step: &'a Step) -> Option<Note<'a>>
 
 /// Whether a script stands behind the word, for a program that reads one.
 #[tactic(auto, unfolding(crate::specs::Quoting::is_script_option))]
-fn is_script_option(word: &str) -> bool
+pub(crate) fn is_script_option(word: &str) -> bool
     ensures { result ≡ model.is_script_option word.now }
 {
     matches!(word, "-c" | "-lc" | "-ec" | "-xc")

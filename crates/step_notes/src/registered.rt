@@ -38,8 +38,14 @@ pub(crate) fn is_registered_by(name: &str, steps: &[Step]) -> bool
 pub(crate) fn is_sure(play: &Play, place: usize, name: &str) -> bool
     ensures { result ≡ spec.is_registered_by (tasks_before play.now place) name.now }
 {
-    let tasks = split(play.steps(), place.min(play.tasks())).0;
-    is_registered_by(name, tasks)
+    is_registered_by(name, tasks_above(play, place))
+}
+
+/// Returns the tasks before this place of the play.
+pub(crate) fn tasks_above(play: &Play, place: usize) -> &[Step]
+    ensures { result.now ≡ tasks_before play.now place }
+{
+    split(play.steps(), place.min(play.tasks())).0
 }
 
 impl<'p> Registered<'p> {

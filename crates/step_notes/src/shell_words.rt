@@ -5,40 +5,54 @@ ghost use Rattle.step_notes.specs.ShellWords as model;
 ghost use Rattle.step_notes.specs.ShellWords.{first_shell_word};
 
 use crate::programs::calls_ssh;
-use crate::quoting::has_blank;
+use crate::quoting::{has_blank, is_script_option};
 use fleet_notes::{byte_at, bytes_behind};
 use note_lines::{Note, StepPath};
 use play_model::{Step, Words};
 use text_parts::{is_letter, starts_with_pair};
 
-/// Whether `$NAME`, `${NAME` or `$(` is in front.
-fn is_expansion(bytes: &[u8]) -> bool
-    ensures { result ≡ model.is_expansion bytes.now }
+fn is_capital(byte: u8) -> bool
+    ensures { result ≡ model.is_capital byte }
+{
+    matches!(byte, b'A'..=b'Z')
+}
+
+/// Whether `$NAME`, `${NAME` or `$(` is in front; of a word with blanks `$` and three capital letters.
+fn is_expansion(spaced: bool, bytes: &[u8]) -> bool
+    ensures { result ≡ model.is_expansion spaced bytes.now }
 {
     if byte_at(bytes, 0) != b'$' {
         return false;
     }
     let next = byte_at(bytes, 1);
-    is_letter(next) || next == b'(' || (next == b'{' && is_letter(byte_at(bytes, 2)))
+    if spaced {
+        is_capital(next) && (is_capital(byte_at(bytes, 2)) && is_capital(byte_at(bytes, 3)))
+    } else {
+        is_letter(next) || next == b'(' || (next == b'{' && is_letter(byte_at(bytes, 2)))
+    }
 }
 
-fn has_expansion(bytes: &[u8]) -> bool
-    ensures { result ≡ model.has_expansion bytes.now }
+fn has_expansion(spaced: bool, bytes: &[u8]) -> bool
+    ensures { result ≡ model.has_expansion spaced bytes.now }
 {
     for place in 0..bytes.len() {
-        if is_expansion(bytes_behind(bytes, place)) {
+        if is_expansion(spaced, bytes_behind(bytes, place)) {
             return true;
         }
     }
     false
 }
 
-/// Whether a shell would put something else in place of a part of the word. A text with blanks is a script, for a program that reads it.
-fn is_expanded(word: &str) -> bool
-    ensures { result ≡ model.is_expanded word.now }
+/// Whether a shell would put something else in place of a part of the word. Behind an option for a script a word with blanks is one.
+fn is_expanded(scripted: bool, word: &str) -> bool
+    ensures { result ≡ model.is_expanded scripted word.now }
 {
     let bytes = word.as_bytes();
-    !has_blank(bytes) && (has_expansion(bytes) || starts_with_pair(bytes, b'~', b'/'))
+    if has_blank(bytes) {
+        !scripted && has_expansion(true, bytes)
+    } else {
+        has_expansion(false, bytes) || starts_with_pair(bytes, b'~', b'/')
+    }
 }
 
 #[tactic(auto, unfolding(crate::specs::ShellWords::is_shell_sign))]
@@ -52,10 +66,10 @@ fn is_shell_sign(word: &str) -> bool
     }
 }
 
-fn is_shell_word(word: &str) -> bool
-    ensures { result ≡ model.is_shell_word word.now }
+fn is_shell_word(scripted: bool, word: &str) -> bool
+    ensures { result ≡ model.is_shell_word scripted word.now }
 {
-    is_shell_sign(word) || is_expanded(word)
+    is_shell_sign(word) || is_expanded(scripted, word)
 }
 
 /// The first such word behind the program.
@@ -63,7 +77,8 @@ fn find_shell_word(words: &Words) -> Option<&str>
     ensures { option_map (λ word. word.now) result ≡ first_shell_word words.now }
 {
     for place in 1..words.len() {
-        if is_shell_word(words.at(place)) {
+        let scripted = is_script_option(words.at(place - 1));
+        if is_shell_word(scripted, words.at(place)) {
             return Some(words.at(place));
         }
     }

@@ -9,14 +9,16 @@ ghost use Rattle.note_lines.specs.Notes.{noted, seen};
 ghost use Rattle.step_notes.specs.Steps as model;
 ghost use Rattle.step_notes.specs.Steps.{name_notes, notes_at, result_notes, words_notes};
 
-use crate::arguments::{dash_note, long_note};
+use crate::arguments::dash_note;
 use crate::asked::{Asked, list_asked};
 use crate::asking::Askers;
+use crate::conditions::never_holds;
 use crate::crowd::Crowd;
 use crate::doubts::{changed_note, note_conditions};
 use crate::idle::idle_step_note;
 use crate::places::{local_note, target_note};
 use crate::quoting::{blank_note, quotes_note};
+use crate::registered::tasks_above;
 use crate::results::list_unsure;
 use crate::shell_words::shell_note;
 use note_lines::{Note, Notes, StepPath};
@@ -26,10 +28,10 @@ use std::alloc::{AllocError, Global};
 fn notifies(task: &Step, handler: usize) -> bool
     ensures { result ≡ model.notifies handler task.now }
 {
-    task.notify.iter().any(|other| handler == *other)
+    task.notify.iter().any(|other| handler == *other) && !never_holds(&task.changed_when)
 }
 
-/// Whether a task of the play notifies the handler of this number.
+/// Whether a task of the play that may change something notifies the handler of this number.
 fn is_notified(play: &Play, handler: usize) -> bool
     ensures { result ≡ model.is_notified play.now handler }
 {
@@ -154,14 +156,13 @@ fn note_words<'a>(
     step: &'a Step,
 ) -> Result<(), AllocError>
     ensures { OnOk result (notes.new ≡ notes.old
-        ++ words_notes (has_name asked.now.registered.now) (crowd_of asked.now.crowd) (foreseen_from asked.now.stand asked.now.crowd.lacks.now.vars.now) at step.now) }
+        ++ words_notes (crowd_of asked.now.crowd) (foreseen_from asked.now.stand asked.now.crowd.lacks.now.vars.now) at step.now) }
 {
     notes.add(shell_note(at, step))?;
     notes.add(blank_note(at, step))?;
     notes.add(quotes_note(at, step))?;
-    notes.add(local_note(alloc, asked, at, step)?)?;
-    notes.add(target_note(alloc, asked, at, step)?)?;
-    notes.add(long_note(at, step))?;
+    notes.add(local_note(alloc, &asked.crowd, asked.stand, at, step)?)?;
+    notes.add(target_note(alloc, &asked.crowd, asked.stand, at, step)?)?;
     notes.add(dash_note(&asked.crowd, at, step))?;
     Ok(())
 }
@@ -181,7 +182,14 @@ pub fn note_step<'a>(
     let crowd = &asked.crowd;
     note_asked(alloc, notes, asked, at, step)?;
     note_results(alloc, notes, asked, play, at, step)?;
-    note_conditions(alloc, notes, crowd.fleet, at, step)?;
+    note_conditions(
+        alloc,
+        notes,
+        crowd.fleet,
+        tasks_above(play, asked.stand.place),
+        at,
+        step,
+    )?;
     notes.add(idle_step_note(alloc, crowd, asked.stand, at, step)?)?;
     notes.add(changed_note(alloc, crowd.fleet, at, step)?)?;
     note_words(alloc, notes, asked, at, step)?;

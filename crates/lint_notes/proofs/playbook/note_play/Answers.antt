@@ -1,6 +1,9 @@
 use Rattle.std.proofs.Common.{◌≡◌, ◌+◌, ◌++◌, ap, ◌∙◌}
-use Rattle.step_notes.specs.Hosts.{crowd_for, waiting_for}
-use Rattle.step_notes.specs.Inside.{foreseen_in, has_missed, has_name, value_in}
+use Rattle.group_tree.specs.Names.{Name}
+use Rattle.step_notes.specs.Differing.{named_by}
+use Rattle.step_notes.specs.Hosts.{are_several, crowd_for, waiting_for}
+use Rattle.step_notes.specs.Inside.{differs_in, foreseen_in, has_missed, has_name, value_in}
+use Rattle.step_notes.specs.Lacks.{varies_among}
 use Rattle.step_notes.specs.Places.{local_play_note}
 use Rattle.step_notes.specs.Programs.{goes_elsewhere}
 use Rattle.note_lines.specs.Notes.{noted}
@@ -22,16 +25,19 @@ returns-clause-notes c =
     let waiting : c.in_ok-lacks.lacks.waiting.now ≡ waiting_for fleet play = lacks.waiting ∙ c.as_slice.ensures.value ∙ c.in_ok-targets.ensures.waiting in
     let elsewhere : c.in_ok-lacks.lacks.elsewhere ≡ goes_elsewhere play.steps.items = lacks.elsewhere ∙ ap goes_elsewhere c.steps.ensures.value in
     let crowd = crowd_for fleet (value_in scene.vars.now) (has_missed scene.given.now) play in
+    let differs : (name : Name) → differs_in c.in_ok-lacks.lacks c.in_ok-results.results name ≡ crowd.differs name = λ name.
+    c.in_ok-results.ensures name
+    ∙ (λ i. named_by (are_several (waiting i)) (λ name. varies_among (value_in (lacks.vars i) name) (waiting i)) (c.steps.ensures.value i) name) in
     let foreseen = foreseen_in plays.fleet.now plays.plays.now scene.vars.now number in
-    let local = noted (local_play_note is_set crowd foreseen (number + 1) play) in
+    let local = noted (local_play_note crowd foreseen (number + 1) play) in
     let steps = steps_notes is_set crowd foreseen number play in
     let first : placed ≡ batched ++ local =
     c.in_ok-note_local.ensures
-    ∙ (λ i. batched ++ noted (local_play_note is_set (record { fleet = fleet; value = value_in (lacks.vars i); gives = has_missed (lacks.given i); elsewhere = elsewhere i; waiting = waiting i })
+    ∙ (λ i. batched ++ noted (local_play_note (record { fleet = fleet; value = value_in (lacks.vars i); gives = has_missed (lacks.given i); differs = λ name. differs name i; elsewhere = elsewhere i; waiting = waiting i })
     (foreseen_in plays.fleet.now plays.plays.now (lacks.vars i) number) (number + 1) play)) in
     let then : c.note_steps.new.notes ≡ placed ++ steps =
     c.in_ok-note_steps.ensures.notes
-    ∙ (λ i. placed ++ steps_notes is_set (record { fleet = fleet; value = value_in (lacks.vars i); gives = has_missed (lacks.given i); elsewhere = elsewhere i; waiting = waiting i })
+    ∙ (λ i. placed ++ steps_notes is_set (record { fleet = fleet; value = value_in (lacks.vars i); gives = has_missed (lacks.given i); differs = λ name. differs name i; elsewhere = elsewhere i; waiting = waiting i })
     (foreseen_in plays.fleet.now plays.plays.now (lacks.vars i) number) number play) in
     two_noted c.args.notes.now batched c.note_steps.new.notes (batch_notes fleet c.args.smallest (number + 1) play) (local ++ steps) c.in_ok-note_batches.ensures
     (two_noted batched placed c.note_steps.new.notes local steps first then)

@@ -1,4 +1,4 @@
-use Rattle.std.proofs.Common.{◌++◌}
+use Rattle.std.proofs.Common.{◌++◌, []}
 use Rattle.std.specs.Prelude.{codes}
 use Rattle.step_notes.specs.Doubts.{condition_notes}
 use Rattle.fleet_notes.proofs.NotedLemmas.{two_noted}
@@ -13,7 +13,7 @@ returns c =
     let first = c.note_condition.new.notes in
     let second = c.note_condition-2.new.notes in
     let all = c.note_condition-3.new.notes in
-    let changed = condition_notes fleet at (codes "changed_when") step.changed_when in
-    let failed = condition_notes fleet at (codes "failed_when") step.failed_when in
-    two_noted before first all (condition_notes fleet at (codes "when") step.when) (changed ++ failed) c.in_ok-note_condition.ensures
+    let changed = condition_notes fleet [] at (codes "changed_when") step.changed_when in
+    let failed = condition_notes fleet [] at (codes "failed_when") step.failed_when in
+    two_noted before first all (condition_notes fleet c.args.tasks.now at (codes "when") step.when) (changed ++ failed) c.in_ok-note_condition.ensures
     (two_noted first second all changed failed c.in_ok-note_condition-2.ensures c.in_ok-note_condition-3.ensures)

@@ -5,4 +5,4 @@ use Rattle.step_notes.proofs.places.count_may_run.Given as goal
 
 abbrev pub invariant-loop-host : goal.invariant-loop-host
 invariant-loop-host l =
-    l.count ≡ count_by (λ host. not (foreseen_from l.asked.stand l.asked.crowd.lacks.now.vars.now host).is_skipped) (take l.host-index l.asked.crowd.lacks.now.waiting.now)
+    l.count ≡ count_by (λ host. not (foreseen_from l.stand l.crowd.lacks.now.vars.now host).is_skipped) (take l.host-index l.crowd.lacks.now.waiting.now)

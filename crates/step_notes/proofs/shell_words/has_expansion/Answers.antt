@@ -6,14 +6,14 @@ use Rattle.step_notes.proofs.shell_words.has_expansion.Goals as goal
 
 pub loop-place-preserved : goal.loop-place-preserved
 loop-place-preserved c =
-    found_behind is_expansion c.args.bytes.now c.loop-place.place c.loop-place-test.true (sym (ap is_expansion c.bytes_behind.ensures) ∙ sym c.is_expansion.ensures ∙ c.if-is_expansion.false)
+    found_behind (is_expansion c.args.spaced) c.args.bytes.now c.loop-place.place c.loop-place-test.true (sym (ap (is_expansion c.args.spaced) c.bytes_behind.ensures) ∙ sym c.is_expansion.ensures ∙ c.if-is_expansion.false)
     ∙ c.loop-place.invariant
 
 pub returns-then-is_expansion : goal.returns-then-is_expansion
 returns-then-is_expansion c =
-    sym (found_here is_expansion c.args.bytes.now c.loop-place.place c.loop-place-test.true (sym (ap is_expansion c.bytes_behind.ensures) ∙ sym c.is_expansion.ensures ∙ c.if-is_expansion.true))
+    sym (found_here (is_expansion c.args.spaced) c.args.bytes.now c.loop-place.place c.loop-place-test.true (sym (ap (is_expansion c.args.spaced) c.bytes_behind.ensures) ∙ sym c.is_expansion.ensures ∙ c.if-is_expansion.true))
     ∙ c.loop-place.invariant
 
 pub returns : goal.returns
 returns c =
-    sym (ap has_expansion (drop_all c.loop-place.place c.args.bytes.now (omega arith))) ∙ c.loop-place.invariant
+    sym (ap (has_expansion c.args.spaced) (drop_all c.loop-place.place c.args.bytes.now (omega arith))) ∙ c.loop-place.invariant

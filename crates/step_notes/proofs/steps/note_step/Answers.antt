@@ -1,5 +1,6 @@
-use Rattle.std.proofs.Common.{◌≡◌, ◌++◌, Option, ap, ◌∙◌}
+use Rattle.std.proofs.Common.{◌≡◌, ◌++◌, List, Option, ap, ◌∙◌}
 use Rattle.needed_results.specs.Needs.{tasks_before}
+use Rattle.play_model.specs.declared.step.Step.{Step}
 use Rattle.step_notes.specs.Doubts.{changed_note, conditions_notes}
 use Rattle.step_notes.specs.Inside.{crowd_of, foreseen_from, has_name}
 use Rattle.note_lines.specs.Notes.{Note, noted}
@@ -26,16 +27,17 @@ returns c =
     let all = c.add-3.new.self in
     let names = name_notes is_set crowd foreseen at step in
     let results = result_notes is_set crowd foreseen (tasks_before play stand.place) at step in
-    let conditions = conditions_notes crowd.fleet at step in
+    let conditions = conditions_notes crowd.fleet (tasks_before play stand.place) at step in
     let skipped = noted (idle_step_note crowd foreseen at step) in
     let changed = noted (changed_note crowd.fleet at step) in
-    let words = words_notes is_set crowd foreseen at step in
+    let words = words_notes crowd foreseen at step in
     let idle = noted (idle_note play at) in
+    let judged : asked ≡ wanted ++ conditions = c.in_ok-note_conditions.ensures ∙ ap (λ (tasks : List Step). wanted ++ conditions_notes crowd.fleet tasks at step) c.tasks_above.ensures in
     let of_run : run ≡ asked ++ skipped = c.in_ok-add.ensures ∙ ap (λ (note : Option Note). asked ++ noted note) c.in_ok-idle_step_note.ensures in
     let of_change : guarded ≡ run ++ changed = c.in_ok-add-2.ensures ∙ ap (λ (note : Option Note). run ++ noted note) c.in_ok-changed_note.ensures in
     let of_handler : all ≡ worded ++ idle = c.in_ok-add-3.ensures ∙ ap (λ (note : Option Note). worded ++ noted note) c.idle_note.ensures in
     two_noted before named all names (results ++ (conditions ++ (skipped ++ (changed ++ (words ++ idle))))) c.in_ok-note_asked.ensures
     (two_noted named wanted all results (conditions ++ (skipped ++ (changed ++ (words ++ idle)))) c.in_ok-note_results.ensures
-    (two_noted wanted asked all conditions (skipped ++ (changed ++ (words ++ idle))) c.in_ok-note_conditions.ensures
+    (two_noted wanted asked all conditions (skipped ++ (changed ++ (words ++ idle))) judged
     (two_noted asked run all skipped (changed ++ (words ++ idle)) of_run
     (two_noted run guarded all changed (words ++ idle) of_change (two_noted guarded worded all words idle c.in_ok-note_words.ensures of_handler)))))
