@@ -7,7 +7,7 @@ PRELOAD is disk.c as a library, NOTE is note.c as a program: it notes what happe
 behind what each program notes of its begin and its end, and at DRAWN drawn moments; and so is a run that goes on. Where DRAWN is less than 300, as many
 fewer of the other moments are tried, by the seed. Each time what `state` tells is held against what the programs noted: of whom a program began a batch is open or over, who is updated came to his end, and nobody is down but
 those of the open batch and those who failed. Then it goes on, at once and with those that are up by now, to its end. Over all runs no group was over its limit, and nobody who was updated ran
-again. It counts what passed.
+again; each host was restarted after its change, and once more after each repair. It counts what passed.
 """
 import os
 import random
@@ -76,6 +76,14 @@ def go_on(roll, mended=(), wanted=(0, 2, 3, 4), **environment):
     ]
 
 
+def not_restarted(noted, word):
+    """Hosts with such a note that no restart follows. What a first attempt has changed a second one doesn't, so that it owes the restart."""
+    waiting = set()
+    for said, host in noted:
+        waiting = waiting - {host} if said == "restarted" else waiting | {host} if said == word else waiting
+    return waiting and f"not restarted since they were noted as {word}: {waiting}"
+
+
 def to_the_end(roll):
     """Goes on at once, and then with all that are down, until everybody is updated; where no line of the journal was left, nothing has begun."""
     if not journal.bodies_of(roll.kept()):
@@ -90,8 +98,8 @@ def to_the_end(roll):
         wrongs += go_on(roll, sorted(host for host, state in states.items() if state in DOWN))
     states = journal.states_of(roll.kept(), ALL_HOSTS)
     wrongs.append(set(states.values()) != {"updated"} and f"in the end {states}")
-    wrongs.append(over(GROUPS, [(host, word == "began") for word, host in roll.noted() if word != "failed"]))
-    return wrongs
+    wrongs.append(over(GROUPS, [(host, word == "began") for word, host in roll.noted() if word in ("began", "restarted", "mended")]))
+    return [*wrongs, *(not_restarted(roll.noted(), word) for word in ("ended", "mended"))]
 
 
 def broken_off(roll, kind, *how):
@@ -147,7 +155,7 @@ def moments(draw, drawn, calls, first, calls_again, took):
         found += [("call", at, does, power) for does in ("kill_before", "kill_behind") for power in (0, draw.random())]
     for host in ALL_HOSTS:
         found += [("program", f"began {host}", draw.random() < 0.5)]
-        found += [("program", f"ended {host}", draw.random() < 0.5)] if host not in FAILING else []
+        found += [("program", f"{word} {host}", draw.random() < 0.5) for word in ("ended", "restarted") if host not in FAILING]
     for at in range(1, calls_again + 1):
         found += [("again", first, at, does, None) for does in ("kill_before", "kill_behind", "fail", "full") if does != "full" or at < calls_again]
         found += [("again", first, at, does, power) for does in ("kill_before", "kill_behind") for power in (0, draw.random())]

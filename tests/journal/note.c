@@ -1,6 +1,6 @@
-/* A program of a run that is broken off: `note FILE HOST MILLISECONDS FAILING..` adds to FILE that it began, rests, and adds that it ended; or that it failed, where its host is one of
-   FAILING, as long as no file FILE.HOST is there. Each line is added in one piece, so that their order is that of what happened. Where KILL_AT is `began HOST` or `ended HOST`, who started
-   it is killed behind that line; with KILL_ALL its whole group. */
+/* A program of a run that is broken off: `note FILE HOST MILLISECONDS FAILING..` adds to FILE that it began, rests, and adds that it ended; or that it failed, if its host is one of
+   FAILING and no file FILE.HOST is there. The first time that it ends on a host it says `changed`. `note FILE HOST restart` adds that the host was restarted. Each line is added in one
+   piece, so that their order is that of what happened. If KILL_AT is such a line, `began HOST` say, who started the program is killed behind it; with KILL_ALL its whole group. */
 #define _GNU_SOURCE
 #include <fcntl.h>
 #include <signal.h>
@@ -34,11 +34,22 @@ static int fails(int count, char **names) {
     return 0;
 }
 
+/* A file FILE.HOST.changed says that the host was changed before. */
+static int is_first(void) {
+    char changed[4096];
+    snprintf(changed, sizeof changed, "%s.%s.changed", file, host);
+    return open(changed, O_WRONLY | O_CREAT | O_EXCL, 0600) >= 0;
+}
+
 int main(int count, char **words) {
     if (count < 4)
         return 2;
     file = words[1];
     host = words[2];
+    if (!strcmp(words[3], "restart")) {
+        note("restarted");
+        return 0;
+    }
     note("began");
     usleep(1000 * atoi(words[3]));
     if (fails(count - 4, words + 4)) {
@@ -46,5 +57,7 @@ int main(int count, char **words) {
         return 1;
     }
     note("ended");
+    if (is_first())
+        puts("changed");
     return 0;
 }

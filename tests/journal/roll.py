@@ -37,8 +37,11 @@ class Roll:
         argv = [note, self.notes, "{{ inventory_hostname }}", "4", *FAILING]
         with open(self.inventory, "wb") as file:
             file.write(inventory())
+        # It changes a host once; the restart that this calls for is a handler.
+        change = {"command": {"argv": argv}, "register": "done", "changed_when": "done.stdout == 'changed'", "notify": "restart"}
+        restart = {"name": "restart", "command": {"argv": [*argv[:3], "restart"]}}
         with open(self.playbook, "w") as file:
-            json.dump([{"hosts": "all", "max_fail_percentage": 100, "tasks": [{"command": {"argv": argv}}]}], file)
+            json.dump([{"hosts": "all", "max_fail_percentage": 100, "tasks": [change], "handlers": [restart]}], file)
 
     def words(self, *more):
         return [self.program, "run", self.inventory, self.playbook, "--forks", "5", *more]
