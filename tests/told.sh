@@ -139,7 +139,7 @@ cat >"$work/reasons" <<'REASONS'
 changed-when failed at step 4 (changed_when): rc=0, a name in changed_when has no value
 exec-format failed at step 10 (starts): not started
 failed-when failed at step 5 (failed_when): rc=3, judged by failed_when
-killed failed at step 11 (lives): rc=-1
+killed failed at step 11 (lives): rc=-1 (ended by a signal)
 long-word failed at step 10 (starts): not started
 no-file failed at step 10 (starts): not started
 output failed at step 6 (by its output): rc=0, judged by failed_when

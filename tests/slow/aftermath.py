@@ -77,7 +77,7 @@ def _reason(row):
     judged = ", judged by changed_when and failed_when" if changed and failed else ", judged by failed_when" if failed else ""
     if changed and not failed and row.ended.rc == 0:
         judged = ", a name in changed_when has no value"
-    meaning = {124: " (timed out)", 127: " (not found)"}.get(row.ended.rc, "")
+    meaning = {-1: " (ended by a signal)", 124: " (timed out)", 127: " (not found)", 137: " (signal KILL)", 143: " (signal TERM)"}.get(row.ended.rc, "")
     if row.ended.rc == 255 and row.words[0] == "ssh":
         meaning = " (ssh could not connect)"
     return f"rc={row.ended.rc}{meaning}" + ("" if turned("why-names-conditions") else judged)

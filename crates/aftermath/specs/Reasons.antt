@@ -1,5 +1,5 @@
 -- Why a step failed on a host, in words.
-use Rattle.std.specs.Prelude.{ℕ, ℤ, pos, ◌+◌, ◌&&◌, min, Bool, true, false, is_some, if◌then◌else◌, Option, None, Some, option_map, string_bytes}
+use Rattle.std.specs.Prelude.{ℕ, ℤ, pos, negsuc, ◌+◌, ◌&&◌, min, Bool, true, false, is_some, if◌then◌else◌, Option, None, Some, option_map, string_bytes}
 use Rattle.std.specs.Prelude.{List, [], ◌++◌, bytes_eq, codes, length, nat_lt}
 use Rattle.std.specs.Ordering.{int_eq}
 use Rattle.fleet_numbers.specs.NumberLists.{list_at}
@@ -28,12 +28,15 @@ abbrev pub calls_ssh : Option Step → Bool
 calls_ssh None = false
 calls_ssh (Some step) = is_ssh step.words
 
--- what a return code says by custom: of `timeout`, of a shell, of `ssh`
+-- what a return code says by custom: of a program that a signal ended, of `timeout`, of a shell, of `ssh`
 abbrev pub meaning_text : ℤ → Bool → List ℕ
 meaning_text rc by_ssh =
-    if int_eq rc (pos 124) then codes " (timed out)"
+    if int_eq rc (negsuc 0) then codes " (ended by a signal)"
+    else (if int_eq rc (pos 124) then codes " (timed out)"
     else (if int_eq rc (pos 127) then codes " (not found)"
-    else (if int_eq rc (pos 255) && by_ssh then codes " (ssh could not connect)" else []))
+    else (if int_eq rc (pos 137) then codes " (signal KILL)"
+    else (if int_eq rc (pos 143) then codes " (signal TERM)"
+    else (if int_eq rc (pos 255) && by_ssh then codes " (ssh could not connect)" else [])))))
 
 -- `rc=R`, what that says, and what judges it
 abbrev pub ran_text : ℤ → Option Step → List ℕ

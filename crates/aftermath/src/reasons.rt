@@ -68,10 +68,16 @@ fn calls_ssh(step: Option<&Step>) -> bool
 fn meaning_of(rc: i32, calls_ssh: bool) -> &'static str
     ensures { result.now ≡ spec.meaning_text rc calls_ssh }
 {
-    if rc == 124 {
+    if rc == -1 {
+        " (ended by a signal)"
+    } else if rc == 124 {
         " (timed out)"
     } else if rc == 127 {
         " (not found)"
+    } else if rc == 137 {
+        " (signal KILL)"
+    } else if rc == 143 {
+        " (signal TERM)"
     } else if rc == 255 && calls_ssh {
         " (ssh could not connect)"
     } else {
