@@ -18,10 +18,10 @@ added contents text old false new whole adds all = absurd (both_ways whole adds.
 added contents text old true new true adds all = record { was_whole = refl; written = adds }
 added contents text old true new false adds all = absurd (cc)
 
-module _ {K F L : Type 0} (contents : F → Option (List ℕ)) (file : K → F) (whole : K → Bool) (named : K → L) (numbers : L → List ℕ) (going : K → Bool) where
+module _ {K F L : Type 0} (contents : F → Option (List ℕ)) (file : K → F) (whole : K → Bool) (named : K → L) (numbers : L → List ℕ) (going : K → Bool) (held : JournalEntry → K → Type 0) where
   abbrev keeps : K → K → FleetView → JournalEntry → Type 0
   keeps old new fleet entry =
-      AddsAgain contents (numbers (named old)) (going old) fleet entry (file old) (whole old) (file new) (whole new) (going new) × (named new ≡ named old)
+      AddsAgain contents (numbers (named old)) (going old) fleet entry (file old) (whole old) (file new) (whole new) (going new) × (named new ≡ named old) × held entry new
 
   pub all_added : (fleet : FleetView) (mended : L) (before after : K) (now : Bool) (entries : List JournalEntry) → named before ≡ mended → going before ≡ now → HasKept keeps fleet before after entries → whole after ≡ true
       → IsLonger contents (entries_text fleet (told_again (numbers mended) now entries)) (file before) (whole before) (file after)

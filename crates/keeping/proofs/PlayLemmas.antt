@@ -52,16 +52,16 @@ led_twice fleet said mid first behind state is rest head count =
 
 -- the entries of a log
 module _ (fleet : FleetView) (inventory playbook : List ℕ) (roll : Roll) where
-  pub log_leads : (said : JournalState) (state : State) (log : List Event) → AtWork roll.play state → IsOfSome state → SaysTruly said state → IsLegal roll state log
-      → Leads fleet said (map (entry_of inventory playbook) (entries roll state log)) (state_after roll state log)
-  log_leads said state [] work some truly legal = unsaid fleet said state truly
-  log_leads said state (event ∷ log) work some truly legal =
+  pub log_leads : (said : JournalState) (past : List Event) (state : State) (log : List Event) → AtWork roll.play state → IsOfSome state → SaysTruly said state → IsLegal roll state log
+      → Leads fleet said (map (entry_of inventory playbook) (entries roll past state log)) (state_after roll state log)
+  log_leads said past state [] work some truly legal = unsaid fleet said state truly
+  log_leads said past state (event ∷ log) work some truly legal =
       let after : State = next roll state event in
-      let one = step_leads fleet inventory playbook roll said state event legal.0 work some truly in
-      let rest = log_leads one.later after log (next_at_work roll state event legal.0 work) (next_of_some roll state event legal.0 some) one.truly legal.1 in
-      let first : List Entry = map (entry_of inventory playbook) (entries_at roll state event) in
-      let behind : List Entry = map (entry_of inventory playbook) (entries roll after log) in
-      subst (λ (l : List Entry). Leads fleet said l (state_after roll after log)) (sym (map-append (entry_of inventory playbook) (entries_at roll state event) (entries roll after log)))
+      let one = step_leads fleet inventory playbook roll said past state event legal.0 work some truly in
+      let rest = log_leads one.later (past ++ event ∷ []) after log (next_at_work roll state event legal.0 work) (next_of_some roll state event legal.0 some) one.truly legal.1 in
+      let first : List Entry = map (entry_of inventory playbook) (entries_at roll past state event) in
+      let behind : List Entry = map (entry_of inventory playbook) (entries roll (past ++ event ∷ []) after log) in
+      subst (λ (l : List Entry). Leads fleet said l (state_after roll after log)) (sym (map-append (entry_of inventory playbook) (entries_at roll past state event) (entries roll (past ++ event ∷ []) after log)))
       (led_twice fleet said one.later first behind (state_after roll after log) one.leads rest one.same_head one.same_play)
 
 -- whoever is in the open batch is down by both
@@ -83,23 +83,23 @@ module _ (fleet : FleetView) (inventory playbook : List ℕ) (begun : JournalSta
   end = end_state roll log
 
   abbrev inside : List Entry
-  inside = told inventory playbook (entries roll (start_state roll) log)
+  inside = told inventory playbook (entries roll [] (start_state roll) log)
 
-  pub led : Leads fleet begun (told inventory playbook (entries roll (start_state roll) log)) (end_state roll log)
-  led = log_leads fleet inventory playbook roll begun (start_state roll) log (start_at_work roll) (λ going. absurd (going refl)) begun_so legal
+  pub led : Leads fleet begun (told inventory playbook (entries roll [] (start_state roll) log)) (end_state roll log)
+  led = log_leads fleet inventory playbook roll begun [] (start_state roll) log (start_at_work roll) (λ going. absurd (going refl)) begun_so legal
 
   -- behind an entry that has it begin, the entries of its log lead to where those of its log do, and from there the one of its end does
   module _ (said : JournalState) (first : Entry) (begins : follow fleet said (first ∷ []) ≡ Some begun) where
-    pub play_leads : (how : Option End) → follow fleet said (first ∷ told inventory playbook (entries roll (start_state roll) log ++ end_entries how))
+    pub play_leads : (how : Option End) → follow fleet said (first ∷ told inventory playbook (entries roll [] (start_state roll) log ++ end_entries how))
         ≡ follow fleet led.later (told inventory playbook (end_entries how))
     play_leads how =
         let behind : List Entry = told inventory playbook (end_entries how) in
-        ap (λ l. follow fleet said (first ∷ l)) (map-append (entry_of inventory playbook) (entries roll (start_state roll) log) (end_entries how))
+        ap (λ l. follow fleet said (first ∷ l)) (map-append (entry_of inventory playbook) (entries roll [] (start_state roll) log) (end_entries how))
         ∙ follow_all fleet said begun (first ∷ []) (inside ++ behind) begins
         ∙ follow_all fleet begun led.later inside behind led.leads
 
     -- so far the journal says truly where it stands
-    pub play_said : IsSaidTruly fleet said (first ∷ told inventory playbook (entries roll (start_state roll) log ++ end_entries None)) (end_state roll log)
+    pub play_said : IsSaidTruly fleet said (first ∷ told inventory playbook (entries roll [] (start_state roll) log ++ end_entries None)) (end_state roll log)
     play_said =
         let work : AtWork roll.play end = end_at_work roll log legal in
         record {
@@ -119,7 +119,7 @@ module _ (fleet : FleetView) (inventory playbook : List ℕ) (begun : JournalSta
     rests = and_from (is_under_way led.later) (is_nobody led.later.open_batch) led.truly.going (ap is_nobody nobody)
 
     pub finishes : (said : JournalState) (first : Entry) → follow fleet said (first ∷ []) ≡ Some begun
-        → follow fleet said (first ∷ told inventory playbook (entries roll (start_state roll) log ++ end_entries (Some Finished))) ≡ Some (ends led.later Finished)
+        → follow fleet said (first ∷ told inventory playbook (entries roll [] (start_state roll) log ++ end_entries (Some Finished))) ≡ Some (ends led.later Finished)
     finishes said first begins =
         play_leads said first begins (Some Finished)
         ∙ one_leads fleet led.later (ends led.later Finished) (ended Finished) (ap (λ b. cond b (Some (ends led.later Finished)) None) (and_from (is_between led.later) true rests refl))

@@ -32,14 +32,15 @@ use Rattle.keeping.proofs.DownLemmas.{left_at, rested_at}
 use Rattle.keeping.proofs.RunLemmas.{behind_first, behind_said, plays_begun, run_begins}
 use Rattle.keeping.proofs.StepLemmas.{one_leads}
 use Rattle.roll_run.specs.Journals as kept
-use Rattle.roll_run.specs.Journals.{JournalEntry, aside, beginning, closing, end_entries, ended, entries_at, heading, opening}
+use Rattle.roll_run.specs.Journals.{JournalEntry, aside, beginning, closing, end_entries, ended, entries_at, heading, opening, refused}
 
 -- once a play has begun, what there is to keep is as it is in any run
 same_entry : (inventory playbook mended : List ℕ) (entry : JournalEntry) → is_later entry ≡ true → entry_again mended false entry ≡ entry_of inventory playbook entry
 same_entry inventory playbook mended (heading count) is = absurd (cc)
 same_entry inventory playbook mended (beginning statuses) is = refl
 same_entry inventory playbook mended (aside hosts) is = refl
-same_entry inventory playbook mended (opening batch) is = refl
+same_entry inventory playbook mended (opening behind batch) is = refl
+same_entry inventory playbook mended (refused behind batch) is = refl
 same_entry inventory playbook mended (closing batch statuses) is = refl
 same_entry inventory playbook mended (ended end) is = refl
 
@@ -47,7 +48,8 @@ stays_begun : (entry : JournalEntry) → goes_on_behind false entry ≡ false
 stays_begun (heading count) = refl
 stays_begun (beginning statuses) = refl
 stays_begun (aside hosts) = refl
-stays_begun (opening batch) = refl
+stays_begun (opening behind batch) = refl
+stays_begun (refused behind batch) = refl
 stays_begun (closing batch statuses) = refl
 stays_begun (ended end) = refl
 
@@ -63,27 +65,28 @@ told_alike inventory playbook mended (entry ∷ later) are =
 both_later : (first later : List JournalEntry) → list_all is_later first ≡ true → list_all is_later later ≡ true → list_all is_later (first ++ later) ≡ true
 both_later first later are and = list_all-append is_later first later ∙ and_from (list_all is_later first) (list_all is_later later) are and
 
-at_later : (roll : Roll) (state : State) (event : Event) → list_all is_later (entries_at roll state event) ≡ true
-at_later roll state (set_aside hosts) = refl
-at_later roll state (opened batch) = refl
-at_later roll state (claimed host step) = refl
-at_later roll state (reported host step ending) = refl
-at_later roll state (passed step) = refl
-at_later roll state closed = refl
+at_later : (roll : Roll) (behind : List Event) (state : State) (event : Event) → list_all is_later (entries_at roll behind state event) ≡ true
+at_later roll behind state (set_aside hosts) = refl
+at_later roll behind state (opened batch) = refl
+at_later roll behind state (claimed host step) = refl
+at_later roll behind state (reported host step ending) = refl
+at_later roll behind state (passed step) = refl
+at_later roll behind state closed = refl
 
-log_later : (roll : Roll) (state : State) (log : List Event) → list_all is_later (kept.entries roll state log) ≡ true
-log_later roll state [] = refl
-log_later roll state (event ∷ log) =
-    both_later (entries_at roll state event) (kept.entries roll (next roll state event) log) (at_later roll state event) (log_later roll (next roll state event) log)
+log_later : (roll : Roll) (behind : List Event) (state : State) (log : List Event) → list_all is_later (kept.entries roll behind state log) ≡ true
+log_later roll behind state [] = refl
+log_later roll behind state (event ∷ log) =
+    let now : List Event = behind ++ event ∷ [] in
+    both_later (entries_at roll behind state event) (kept.entries roll now (next roll state event) log) (at_later roll behind state event) (log_later roll now (next roll state event) log)
 
-own_later : (played : Played) (how : Option End) → list_all is_later (kept.entries played.roll (start_state played.roll) played.log ++ end_entries how) ≡ true
-own_later played None = both_later (kept.entries played.roll (start_state played.roll) played.log) [] (log_later played.roll (start_state played.roll) played.log) refl
-own_later played (Some end) = both_later (kept.entries played.roll (start_state played.roll) played.log) (ended end ∷ []) (log_later played.roll (start_state played.roll) played.log) refl
+own_later : (played : Played) (how : Option End) → list_all is_later (kept.entries played.roll [] (start_state played.roll) played.log ++ end_entries how) ≡ true
+own_later played None = both_later (kept.entries played.roll [] (start_state played.roll) played.log) [] (log_later played.roll [] (start_state played.roll) played.log) refl
+own_later played (Some end) = both_later (kept.entries played.roll [] (start_state played.roll) played.log) (ended end ∷ []) (log_later played.roll [] (start_state played.roll) played.log) refl
 
 behind_later : (fleet : FleetView) (played : Played) (later : List Played) → list_all is_later (behind_first fleet [] [] played later) ≡ true
 behind_later fleet played [] = own_later played None
 behind_later fleet played (second ∷ later) =
-    both_later (kept.entries played.roll (start_state played.roll) played.log ++ end_entries (Some Finished)) (run_entries second later) (own_later played (Some Finished))
+    both_later (kept.entries played.roll [] (start_state played.roll) played.log ++ end_entries (Some Finished)) (run_entries second later) (own_later played (Some Finished))
     (ap (list_all is_later) (run_begins fleet [] [] second later) ∙ behind_later fleet second later)
 
 -- the statuses with which a play goes on

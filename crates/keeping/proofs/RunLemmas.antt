@@ -30,8 +30,8 @@ behind_said fleet said mid first behind played leads rest =
 module _ (fleet : FleetView) (inventory playbook : List ℕ) where
   -- plays, the first of which has begun with this entry, and the others come behind it
   abbrev pub behind_first : Played → List Played → List JournalEntry
-  behind_first played [] = entries played.roll (start_state played.roll) played.log ++ end_entries None
-  behind_first played (next ∷ later) = (entries played.roll (start_state played.roll) played.log ++ end_entries (Some Finished)) ++ run_entries next later
+  behind_first played [] = entries played.roll [] (start_state played.roll) played.log ++ end_entries None
+  behind_first played (next ∷ later) = (entries played.roll [] (start_state played.roll) played.log ++ end_entries (Some Finished)) ++ run_entries next later
 
   pub run_begins : (played : Played) (later : List Played) → run_entries played later ≡ beginning played.roll.start ∷ behind_first played later
   run_begins played [] = refl
@@ -49,7 +49,7 @@ module _ (fleet : FleetView) (inventory playbook : List ℕ) where
       subst (λ (n : ℕ). suc mid.play + length later ≤ n) (sym (ap plays_of done.same_head)) (omega (arith, few, done.same_play)) in
       let rest = plays_begun mid (plays mid next.roll.start) (play (waiting_hosts next.roll.start)) next later (begins_so mid next.roll.start after fleet)
       (begun_truly mid next.roll after.nobody) turn.2 plays_left in
-      let own : List JournalEntry = entries played.roll (start_state played.roll) played.log ++ end_entries (Some Finished) in
+      let own : List JournalEntry = entries played.roll [] (start_state played.roll) played.log ++ end_entries (Some Finished) in
       let done_so = finishes fleet inventory playbook now played.roll played.log truly turn.0 turn.1.over said first leads in
       subst (λ (l : List Entry). IsSaidTruly fleet said (first ∷ l) (end_of (last_of next later)))
       (sym (map-append (entry_of inventory playbook) own (run_entries next later)))

@@ -209,9 +209,9 @@ module _ (fleet : FleetView) (roll : Roll) (said : JournalState) (state : State)
         }
 
 -- what there is to keep of an event leads the journal to where the event leads the log
-module _ (fleet : FleetView) (inventory playbook : List ℕ) (roll : Roll) (said : JournalState) (state : State) where
+module _ (fleet : FleetView) (inventory playbook : List ℕ) (roll : Roll) (said : JournalState) (behind : List Event) (state : State) where
   pub step_leads : (event : Event) → Allowed roll state event → AtWork roll.play state → IsOfSome state → SaysTruly said state
-      → Leads fleet said (map (entry_of inventory playbook) (entries_at roll state event)) (next roll state event)
+      → Leads fleet said (map (entry_of inventory playbook) (entries_at roll behind state event)) (next roll state event)
   step_leads (events.set_aside hosts) may work some truly = aside fleet roll said state work truly may.boundary hosts may
   step_leads (events.opened batch) may work some truly = opens_batch fleet roll said state work truly may.boundary batch may
   step_leads (events.claimed host step) may work some truly =

@@ -9,7 +9,7 @@ use Rattle.journal.specs.Entries.{entries_text, entry_text}
 use Rattle.keeping.specs.Keepings.{Adds, Keeps, Makes, entry_of, known_of}
 use Rattle.keeping.specs.Laws.{told}
 use Rattle.keeping.specs.Written.{IsWhole, KeptIsWritten, is_later}
-use Rattle.roll_run.specs.Journals.{HasKept, JournalEntry, aside, beginning, closing, ended, heading, opening}
+use Rattle.roll_run.specs.Journals.{HasKept, JournalEntry, aside, beginning, closing, ended, heading, opening, refused}
 
 pub appends_none : (known : Option (List ℕ)) → Appends known known []
 appends_none None = tt
@@ -38,7 +38,8 @@ module _ {F : Type 0} (contents : F → Option (List ℕ)) where
   kept_one is_new inventory playbook others other fleet (heading plays) old was new whole is kept all = absurd (cc)
   kept_one is_new inventory playbook others other fleet (beginning statuses) old was new whole is kept all = added _ old was new whole kept all
   kept_one is_new inventory playbook others other fleet (aside hosts) old was new whole is kept all = added _ old was new whole kept all
-  kept_one is_new inventory playbook others other fleet (opening batch) old was new whole is kept all = added _ old was new whole kept all
+  kept_one is_new inventory playbook others other fleet (opening behind batch) old was new whole is kept all = added _ old was new whole kept all
+  kept_one is_new inventory playbook others other fleet (refused behind batch) old was new whole is kept all = added _ old was new whole kept all
   kept_one is_new inventory playbook others other fleet (closing batch statuses) old was new whole is kept all = added _ old was new whole kept all
   kept_one is_new inventory playbook others other fleet (ended end) old was new whole is kept all = added _ old was new whole kept all
 
@@ -46,9 +47,9 @@ module _ {F : Type 0} (contents : F → Option (List ℕ)) where
   made is_new text new true makes all = record { fresh = makes.0; new = makes.1; written = makes.2 }
   made is_new text new false makes all = absurd (cc)
 
-  module _ {K : Type 0} (is_new : K → F → Type 0) (inventory playbook : K → List ℕ) (file : K → Option F) (whole : K → Bool) (fleet : FleetView) where
+  module _ {K : Type 0} (is_new : K → F → Type 0) (inventory playbook : K → List ℕ) (file : K → Option F) (whole : K → Bool) (held : JournalEntry → K → Type 0) (fleet : FleetView) where
     abbrev keeps : K → K → FleetView → JournalEntry → Type 0
-    keeps old new fleet entry = Keeps contents (is_new old) (inventory old) (playbook old) fleet entry (file old) (whole old) (file new) (whole new)
+    keeps old new fleet entry = Keeps contents (is_new old) (inventory old) (playbook old) fleet entry (file old) (whole old) (file new) (whole new) × held entry new
 
     later_written : (texts rules : List ℕ) (before after : K) (entries : List JournalEntry) → list_all is_later entries ≡ true → HasKept keeps fleet before after entries → whole after ≡ true
         → IsAdded contents (entries_text fleet (told texts rules entries)) (file before) (whole before) (file after)
@@ -58,18 +59,18 @@ module _ {F : Type 0} (contents : F → Option (List ℕ)) where
     later_written texts rules before after (entry ∷ entries) are kept all =
         let parts = and_parts (is_later entry) (list_all is_later entries) are in
         let rest = later_written texts rules kept.0 after entries parts.1 kept.2 all in
-        let one = kept_one (is_new before) texts rules (inventory before) (playbook before) fleet entry (file before) (whole before) (file kept.0) (whole kept.0) parts.0 kept.1 rest.was_whole in
+        let one = kept_one (is_new before) texts rules (inventory before) (playbook before) fleet entry (file before) (whole before) (file kept.0) (whole kept.0) parts.0 kept.1.0 rest.was_whole in
         record {
           was_whole = one.was_whole;
           written = appends_twice (known_of contents (file before)) (known_of contents (file kept.0)) (known_of contents (file after))
               (entry_text fleet (entry_of texts rules entry)) (entries_text fleet (told texts rules entries)) one.written rest.written;
         }
 
-pub kept_is_written : {K F : Type 0} (contents : F → Option (List ℕ)) (is_new : K → F → Type 0) (inventory playbook : K → List ℕ) (file : K → Option F) (whole : K → Bool) (before after : K)
-    → KeptIsWritten contents is_new inventory playbook file whole before after
-kept_is_written contents is_new inventory playbook file whole before after fleet plays entries are kept all =
-    let rest = later_written contents is_new inventory playbook file whole fleet (inventory before) (playbook before) kept.0 after entries are kept.2 all in
-    let head = made contents (is_new before) _ (file kept.0) (whole kept.0) kept.1 rest.was_whole in
+pub kept_is_written : {K F : Type 0} (contents : F → Option (List ℕ)) (is_new : K → F → Type 0) (inventory playbook : K → List ℕ) (file : K → Option F) (whole : K → Bool)
+    (held : JournalEntry → K → Type 0) (before after : K) → KeptIsWritten contents is_new inventory playbook file whole held before after
+kept_is_written contents is_new inventory playbook file whole held before after fleet plays entries are kept all =
+    let rest = later_written contents is_new inventory playbook file whole held fleet (inventory before) (playbook before) kept.0 after entries are kept.2 all in
+    let head = made contents (is_new before) _ (file kept.0) (whole kept.0) kept.1.0 rest.was_whole in
     record {
       fresh = head.fresh;
       new = head.new;

@@ -10,7 +10,7 @@ use Rattle.journal.specs.Entries as entries
 use Rattle.journal.specs.Listings.{outcomes_of, waiting_hosts}
 use Rattle.keeping.specs.declared.said.Said.{Said}
 use Rattle.keeping.specs.declared.said.Said.TheVariants.{Head, Play, Held, Open, Closed, End, Resumed, Again}
-use Rattle.roll_run.specs.Journals.{JournalEntry, aside, beginning, closing, ended, heading, opening}
+use Rattle.roll_run.specs.Journals.{JournalEntry, aside, beginning, closing, ended, heading, opening, refused}
 
 -- what is said is this entry
 abbrev pub entry_said : Said → Entry
@@ -33,7 +33,8 @@ entry_of inventory playbook (heading plays) =
     entries.begun (record { inventory = digest_of inventory; playbook = digest_of playbook; plays = min plays most_plays })
 entry_of inventory playbook (beginning statuses) = entries.play (waiting_hosts statuses)
 entry_of inventory playbook (aside hosts) = entries.held hosts
-entry_of inventory playbook (opening batch) = entries.opened batch
+entry_of inventory playbook (opening behind batch) = entries.opened batch
+entry_of inventory playbook (refused behind batch) = entries.opened batch
 entry_of inventory playbook (closing batch statuses) = entries.closed (outcomes_of statuses batch)
 entry_of inventory playbook (ended end) = entries.ended end
 
@@ -66,9 +67,21 @@ Keeps contents is_new inventory playbook fleet (beginning statuses) old was new 
     Adds contents (entry_text fleet (entry_of inventory playbook (beginning statuses))) old was new whole
 Keeps contents is_new inventory playbook fleet (aside hosts) old was new whole =
     Adds contents (entry_text fleet (entry_of inventory playbook (aside hosts))) old was new whole
-Keeps contents is_new inventory playbook fleet (opening batch) old was new whole =
-    Adds contents (entry_text fleet (entry_of inventory playbook (opening batch))) old was new whole
+Keeps contents is_new inventory playbook fleet (opening behind batch) old was new whole =
+    Adds contents (entry_text fleet (entry_of inventory playbook (opening behind batch))) old was new whole
+Keeps contents is_new inventory playbook fleet (refused behind batch) old was new whole =
+    Adds contents (entry_text fleet (entry_of inventory playbook (refused behind batch))) old was new whole
 Keeps contents is_new inventory playbook fleet (closing batch statuses) old was new whole =
     Adds contents (entry_text fleet (entry_of inventory playbook (closing batch statuses))) old was new whole
 Keeps contents is_new inventory playbook fleet (ended end) old was new whole =
     Adds contents (entry_text fleet (entry_of inventory playbook (ended end))) old was new whole
+
+-- if a batch may open, the journal has all that was to be kept, the line of the batch too, and is on the disk
+abbrev pub IsHeld : {F : Type 0} → (F → Type 0) → JournalEntry → F → Bool → Type 0
+IsHeld on_disk (heading plays) file whole = Unit {0}
+IsHeld on_disk (beginning statuses) file whole = Unit {0}
+IsHeld on_disk (aside hosts) file whole = Unit {0}
+IsHeld on_disk (opening behind batch) file whole = (whole ≡ true) × on_disk file
+IsHeld on_disk (refused behind batch) file whole = Unit {0}
+IsHeld on_disk (closing batch statuses) file whole = Unit {0}
+IsHeld on_disk (ended end) file whole = Unit {0}

@@ -14,7 +14,7 @@ use Rattle.journal.specs.Listings.{outcomes_of, waiting_hosts}
 use Rattle.journal.specs.States.{JournalState, are_hosts, is_under_way, plays_of, rested, resumes}
 use Rattle.keeping.specs.Keepings.{Takes}
 use Rattle.keeping.specs.Laws.{ComeInTurn, IsSaidTruly, Played, end_of, last_of, run_entries}
-use Rattle.roll_run.specs.Journals.{HasKept, JournalEntry, aside, beginning, closing, ended, heading, opening}
+use Rattle.roll_run.specs.Journals.{HasKept, JournalEntry, aside, beginning, closing, ended, heading, opening, refused}
 
 -- the entry of the journal of a run that goes on, with these hosts up by now: the first play to begin may be the one in which it broke off
 abbrev pub entry_again : List ℕ → Bool → JournalEntry → Entry
@@ -22,7 +22,8 @@ entry_again mended going (heading plays) = entries.resumed mended
 entry_again mended true (beginning statuses) = entries.again (waiting_hosts statuses)
 entry_again mended false (beginning statuses) = entries.play (waiting_hosts statuses)
 entry_again mended going (aside hosts) = entries.held hosts
-entry_again mended going (opening batch) = entries.opened batch
+entry_again mended going (opening behind batch) = entries.opened batch
+entry_again mended going (refused behind batch) = entries.opened batch
 entry_again mended going (closing batch statuses) = entries.closed (outcomes_of statuses batch)
 entry_again mended going (ended end) = entries.ended end
 
@@ -31,7 +32,8 @@ abbrev pub goes_on_behind : Bool → JournalEntry → Bool
 goes_on_behind going (heading plays) = going
 goes_on_behind going (beginning statuses) = false
 goes_on_behind going (aside hosts) = going
-goes_on_behind going (opening batch) = going
+goes_on_behind going (opening behind batch) = going
+goes_on_behind going (refused behind batch) = going
 goes_on_behind going (closing batch statuses) = going
 goes_on_behind going (ended end) = going
 

@@ -72,13 +72,13 @@ impl<F: Disk> Holds for Continuer<'_, F> {
 impl<F: Disk> Keep for Continuer<'_, F> {
     ghost use Rattle.std.specs.Prelude.{◌≡◌, true};
     ghost use Rattle.domains.specs.Ids.{host_numbers};
+    ghost use Rattle.keeping.specs.Keepings.{IsHeld};
     ghost use Rattle.keeping.specs.Resumings.{AddsAgain};
 
     ghost refuses = { true };
 
-    ghost keeps = { λ before after fleet entry. AddsAgain F.contents (host_numbers before.mended.now) before.goes_on fleet entry before.file before.is_whole after.file after.is_whole after.goes_on × (after.mended ≡ before.mended) };
-
-    ghost holds = { λ keeper fleet batch. (keeper.is_whole ≡ true) × F.is_on_disk keeper.file };
+    ghost keeps = { λ before after fleet entry. AddsAgain F.contents (host_numbers before.mended.now) before.goes_on fleet entry before.file before.is_whole after.file after.is_whole after.goes_on × (after.mended ≡ before.mended)
+        × IsHeld F.is_on_disk entry after.file after.is_whole };
 
     fn plays_begin(&mut self, fleet: &Fleet, _plays: usize) {
         self.add(fleet, Said::Resumed(self.mended), false);
@@ -97,7 +97,7 @@ impl<F: Disk> Keep for Continuer<'_, F> {
         self.add(fleet, Said::Held(hosts), false);
     }
 
-    fn opens(&mut self, fleet: &Fleet, batch: &[HostId]) -> bool {
+    fn opens(&mut self, fleet: &Fleet, _at: Moment<'_>, batch: &[HostId]) -> bool {
         self.add(fleet, Said::Open(batch), true);
         self.is_whole
     }

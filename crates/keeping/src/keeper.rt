@@ -10,6 +10,7 @@ use domains::Fleet;
 use fleet_states::Status;
 use group_tree::HostId;
 use play_course::End;
+use roll_core::Moment;
 use roll_run::Keep;
 use std::alloc::Global;
 
@@ -102,13 +103,12 @@ impl<S: Shelf> Holds for Keeper<'_, S> {
 
 impl<S: Shelf> Keep for Keeper<'_, S> {
     ghost use Rattle.std.specs.Prelude.{◌≡◌, IfSome, is_some, true};
-    ghost use Rattle.keeping.specs.Keepings.{Keeps};
+    ghost use Rattle.keeping.specs.Keepings.{IsHeld, Keeps};
 
     ghost refuses = { true };
 
-    ghost keeps = { λ before after fleet entry. Keeps S.Journal.contents (λ file. S.is_new file before.name.now) before.inventory.now before.playbook.now fleet entry before.file before.is_whole after.file after.is_whole };
-
-    ghost holds = { λ keeper fleet batch. (keeper.is_whole ≡ true) × (is_some keeper.file ≡ true) × IfSome keeper.file S.Journal.is_on_disk };
+    ghost keeps = { λ before after fleet entry. Keeps S.Journal.contents (λ file. S.is_new file before.name.now) before.inventory.now before.playbook.now fleet entry before.file before.is_whole after.file after.is_whole
+        × IsHeld (λ file. (is_some file ≡ true) × IfSome file S.Journal.is_on_disk) entry after.file after.is_whole };
 
     fn plays_begin(&mut self, fleet: &Fleet, plays: usize) {
         let said = Said::Head(self.inventory, self.playbook, told_plays(plays));
@@ -123,7 +123,7 @@ impl<S: Shelf> Keep for Keeper<'_, S> {
         self.add(fleet, Said::Held(hosts), false);
     }
 
-    fn opens(&mut self, fleet: &Fleet, batch: &[HostId]) -> bool {
+    fn opens(&mut self, fleet: &Fleet, _at: Moment<'_>, batch: &[HostId]) -> bool {
         self.add(fleet, Said::Open(batch), true);
         self.is_whole
     }

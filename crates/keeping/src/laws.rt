@@ -1,6 +1,7 @@
 //! What the journal of a run says of it, whoever kept it.
-ghost use Rattle.std.specs.Prelude.{◌≡◌};
+ghost use Rattle.std.specs.Prelude.{◌≡◌, IfSome, is_some, true};
 ghost use Rattle.keeping.specs.Ends.{EndsAreSaidTruly};
+ghost use Rattle.keeping.specs.Keepings.{IsHeld};
 ghost use Rattle.keeping.specs.Laws.{PlaysAreSaidTruly, RunsAreSaidTruly};
 ghost use Rattle.keeping.specs.Losses.{CutJournalsLoseNobody, NothingIsLost, OneAheadLosesNobody};
 ghost use Rattle.keeping.specs.Turns.{SafeRollsAreUnderWay};
@@ -52,7 +53,8 @@ pub fn safe_rolls_are_under_way<R: Runner>(runner: &R)
 
 /// From one state of a keeper to another, where it has kept a head and other entries and tells that all was kept: their lines are the text of its journal.
 pub fn kept_is_written<S: Shelf>(before: &Keeper<'_, S>, after: &Keeper<'_, S>)
-    ensures { KeptIsWritten S.Journal.contents (λ keeper file. S.is_new file keeper.name.now) (λ keeper. keeper.inventory.now) (λ keeper. keeper.playbook.now) (λ keeper. keeper.file) (λ keeper. keeper.is_whole) before.now after.now }
+    ensures { KeptIsWritten S.Journal.contents (λ keeper file. S.is_new file keeper.name.now) (λ keeper. keeper.inventory.now) (λ keeper. keeper.playbook.now) (λ keeper. keeper.file) (λ keeper. keeper.is_whole)
+        (λ entry keeper. IsHeld (λ file. (is_some file ≡ true) × IfSome file S.Journal.is_on_disk) entry keeper.file keeper.is_whole) before.now after.now }
 {}
 
 /// At whatever moment of a run that goes on where its journal says that it broke off, the journal with the entries of both says truly where it stands.
@@ -73,6 +75,7 @@ pub fn updated_hosts_stay()
 /// From one state of a keeper that goes on to another, where it tells that all was kept: the text of what it kept was added to its journal.
 pub fn added_is_written<F: Disk>(before: &Continuer<'_, F>, after: &Continuer<'_, F>)
     ensures { AddedIsWritten F.contents (λ keeper. keeper.file) (λ keeper. keeper.is_whole) (λ keeper. host_numbers keeper.mended.now) (λ keeper. keeper.goes_on)
-        (λ before after fleet entry. AddsAgain F.contents (host_numbers before.mended.now) before.goes_on fleet entry before.file before.is_whole after.file after.is_whole after.goes_on × (after.mended ≡ before.mended))
+        (λ before after fleet entry. AddsAgain F.contents (host_numbers before.mended.now) before.goes_on fleet entry before.file before.is_whole after.file after.is_whole after.goes_on × (after.mended ≡ before.mended)
+        × IsHeld F.is_on_disk entry after.file after.is_whole)
         before.now after.now }
 {}

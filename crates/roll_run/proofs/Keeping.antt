@@ -27,13 +27,14 @@ use Rattle.roll_run.specs.declared.turns.Turn.{Turn}
 use Rattle.roll_run.specs.declared.turns.Turn.TheVariants.{Behind, Ended, Broken}
 
 -- there is nothing to keep of what goes on within a batch
-inside_keeps_none : (roll : Roll) (state : State) (more : List Event) → list_all is_inside more ≡ true → entries roll state more ≡ []
-inside_keeps_none roll state [] all = refl
-inside_keeps_none roll state (event ∷ more) all =
+inside_keeps_none : (roll : Roll) (behind : List Event) (state : State) (more : List Event) → list_all is_inside more ≡ true → entries roll behind state more ≡ []
+inside_keeps_none roll behind state [] all = refl
+inside_keeps_none roll behind state (event ∷ more) all =
     let parts = and_parts (is_inside event) (list_all is_inside more) all in
-    ap (λ (l : List JournalEntry). l ++ entries roll (next roll state event) more) (one event parts.0) ∙ inside_keeps_none roll (next roll state event) more parts.1
+    ap (λ (l : List JournalEntry). l ++ entries roll (behind ++ event ∷ []) (next roll state event) more) (one event parts.0)
+    ∙ inside_keeps_none roll (behind ++ event ∷ []) (next roll state event) more parts.1
   where
-    one : (event : Event) → is_inside event ≡ true → entries_at roll state event ≡ []
+    one : (event : Event) → is_inside event ≡ true → entries_at roll behind state event ≡ []
     one (set_aside hosts) is = absurd (cc)
     one (opened batch) is = absurd (cc)
     one (claimed host step) is = refl
@@ -41,14 +42,20 @@ inside_keeps_none roll state (event ∷ more) all =
     one (passed step) is = refl
     one closed is = absurd (cc)
 
-entries-append : (roll : Roll) (state : State) (log more : List Event) → entries roll state (log ++ more) ≡ entries roll state log ++ entries roll (state_after roll state log) more
-entries-append roll state [] more = refl
-entries-append roll state (event ∷ log) more =
-    ap (λ (l : List JournalEntry). entries_at roll state event ++ l) (entries-append roll (next roll state event) log more)
-    ∙ sym (append_assoc (entries_at roll state event) (entries roll (next roll state event) log) (entries roll (state_after roll (next roll state event) log) more))
+entries-append : (roll : Roll) (behind : List Event) (state : State) (log more : List Event)
+    → entries roll behind state (log ++ more) ≡ entries roll behind state log ++ entries roll (behind ++ log) (state_after roll state log) more
+entries-append roll behind state [] more = ap (λ (l : List Event). entries roll l state more) (sym (append-nil behind))
+entries-append roll behind state (event ∷ log) more =
+    let after : State = next roll state event in
+    let now : List Event = behind ++ event ∷ [] in
+    ap (λ (l : List JournalEntry). entries_at roll behind state event ++ l) (entries-append roll now after log more)
+    ∙ ap (λ (l : List Event). entries_at roll behind state event ++ (entries roll now after log ++ entries roll l (state_after roll after log) more)) (append_assoc behind (event ∷ []) log)
+    ∙ sym (append_assoc (entries_at roll behind state event) (entries roll now after log) (entries roll (behind ++ event ∷ log) (state_after roll after log) more))
 
-opening_alone : (roll : Roll) (state : State) (batch : List ℕ) (within : List Event) → list_all is_inside within ≡ true → entries roll state (opened batch ∷ within) ≡ opening batch ∷ []
-opening_alone roll state batch within all = ap (λ (l : List JournalEntry). opening batch ∷ l) (inside_keeps_none roll (next roll state (opened batch)) within all)
+opening_alone : (roll : Roll) (behind : List Event) (state : State) (batch : List ℕ) (within : List Event) → list_all is_inside within ≡ true
+    → entries roll behind state (opened batch ∷ within) ≡ opening behind batch ∷ []
+opening_alone roll behind state batch within all =
+    ap (λ (l : List JournalEntry). opening behind batch ∷ l) (inside_keeps_none roll (behind ++ opened batch ∷ []) (next roll state (opened batch)) within all)
 
 module _ {K : Type 0} (keeps : K → K → FleetView → JournalEntry → Type 0) where
   kept_more : (fleet : FleetView) (before mid after : K) (first later : List JournalEntry) → HasKept keeps fleet before mid first → HasKept keeps fleet mid after later → HasKept keeps fleet before after (first ++ later)
@@ -66,17 +73,18 @@ module _ {K : Type 0} (keeps : K → K → FleetView → JournalEntry → Type 0
   keeps_further old mid new before between after one other = record {
     more = one.more ++ other.more;
     kernel = other.kernel ∙ ap (λ (k : KernelView). grown k other.more) one.kernel ∙ ap (λ (log : List Event). record old { log = log }) (append_assoc old.log one.more other.more);
-    kept = subst (HasKept keeps old.fleet before after) (sym (entries-append (roll_of old) (state_of old) one.more other.more))
-        (kept_more old.fleet before between after (entries (roll_of old) (state_of old) one.more) (entries (roll_of old) (state_after (roll_of old) (state_of old) one.more) other.more) one.kept later);
+    kept = subst (HasKept keeps old.fleet before after) (sym (entries-append (roll_of old) old.log (state_of old) one.more other.more))
+        (kept_more old.fleet before between after (entries (roll_of old) old.log (state_of old) one.more)
+        (entries (roll_of old) (old.log ++ one.more) (state_after (roll_of old) (state_of old) one.more) other.more) one.kept later);
   }
     where
       state_is : state_of (grown old one.more) ≡ state_after (roll_of old) (state_of old) one.more
       state_is = after_all (roll_of old) (start_state (roll_of old)) old.log one.more
 
-      later : HasKept keeps old.fleet between after (entries (roll_of old) (state_after (roll_of old) (state_of old) one.more) other.more)
+      later : HasKept keeps old.fleet between after (entries (roll_of old) (old.log ++ one.more) (state_after (roll_of old) (state_of old) one.more) other.more)
       later =
-          subst (λ (s : State). HasKept keeps old.fleet between after (entries (roll_of old) s other.more)) state_is
-          (subst (λ (k : KernelView). HasKept keeps k.fleet between after (entries (roll_of k) (state_of k) other.more)) one.kernel other.kept)
+          subst (λ (s : State). HasKept keeps old.fleet between after (entries (roll_of old) (old.log ++ one.more) s other.more)) state_is
+          (subst (λ (k : KernelView). HasKept keeps k.fleet between after (entries (roll_of k) k.log (state_of k) other.more)) one.kernel other.kept)
 
   pub ahead_further : (old mid new : KernelView) (before between after : K) → KeepsUp keeps old mid before between → KeepsAhead keeps mid new between after → KeepsAhead keeps old new before after
   ahead_further old mid new before between after one other = record {
@@ -101,29 +109,29 @@ module _ {K : Type 0} (keeps : K → K → FleetView → JournalEntry → Type 0
         record { more = set_aside hosts ∷ []; kernel = ap (λ (b : BoardView R). b.kernel) is; kept = (after, kept, refl) }
 
     -- a batch was opened and worked on
-    pub keeps_run : (batch : List ℕ) (before after : K) → HasRun batch old new → keeps before after old.kernel.fleet (opening batch) → KeepsUp keeps old.kernel new.kernel before after
+    pub keeps_run : (batch : List ℕ) (before after : K) → HasRun batch old new → keeps before after old.kernel.fleet (opening old.kernel.log batch) → KeepsUp keeps old.kernel new.kernel before after
     keeps_run batch before after run kept = record {
       more = opened batch ∷ run.more;
       kernel = run.kernel;
-      kept = subst (HasKept keeps old.kernel.fleet before after) (sym (opening_alone (roll_of old.kernel) (state_of old.kernel) batch run.more run.inside)) (after, kept, refl);
+      kept = subst (HasKept keeps old.kernel.fleet before after) (sym (opening_alone (roll_of old.kernel) old.kernel.log (state_of old.kernel) batch run.more run.inside)) (after, kept, refl);
     }
 
     -- or broken off
-    pub keeps_broken : (batch : List ℕ) (before after : K) → HasBroken batch old new → keeps before after old.kernel.fleet (opening batch) → KeepsAhead keeps old.kernel new.kernel before after
+    pub keeps_broken : (batch : List ℕ) (before after : K) → HasBroken batch old new → keeps before after old.kernel.fleet (opening old.kernel.log batch) → KeepsAhead keeps old.kernel new.kernel before after
     keeps_broken batch before after broken kept = by broken.opens_it
       where
         by : (broken.more ≡ []) ⊎ (broken.more ≡ opened batch ∷ broken.within) → KeepsAhead keeps old.kernel new.kernel before after
         by (inl none) = record {
           mid = before;
           up = record { more = []; kernel = broken.kernel ∙ ap (grown old.kernel) none; kept = refl };
-          ahead = inr (batch, kept);
+          ahead = inr (old.kernel.log, batch, inl kept);
         }
         by (inr one) = record {
           mid = after;
           up = record {
             more = opened batch ∷ broken.within;
             kernel = broken.kernel ∙ ap (grown old.kernel) one;
-            kept = subst (HasKept keeps old.kernel.fleet before after) (sym (opening_alone (roll_of old.kernel) (state_of old.kernel) batch broken.within broken.inside)) (after, kept, refl);
+            kept = subst (HasKept keeps old.kernel.fleet before after) (sym (opening_alone (roll_of old.kernel) old.kernel.log (state_of old.kernel) batch broken.within broken.inside)) (after, kept, refl);
           };
           ahead = inl refl;
         }
@@ -166,7 +174,7 @@ module _ {K : Type 0} (keeps : K → K → FleetView → JournalEntry → Type 0
     pub play_kept : (after : K) (end : Option End) → KeepsUp keeps kernel new begun mid → HasKept keeps kernel.fleet mid after (end_entries end) → AreKept keeps kernel.fleet before after (new.log ∷ [])
     play_kept after end up ends =
         subst (λ (log : List Event). AreKept keeps kernel.fleet before after (log ∷ [])) (sym log_is)
-        (roll_of kernel, end, after, refl, legal_so, (begun, begins, kept_more kernel.fleet begun mid after (entries (roll_of kernel) (start_state (roll_of kernel)) up.more) (end_entries end) kept ends), refl)
+        (roll_of kernel, end, after, refl, legal_so, (begun, begins, kept_more kernel.fleet begun mid after (entries (roll_of kernel) [] (start_state (roll_of kernel)) up.more) (end_entries end) kept ends), refl)
       where
         grown_is : new ≡ record kernel { log = up.more }
         grown_is = up.kernel ∙ ap (λ (log : List Event). record kernel { log = log ++ up.more }) none
@@ -177,8 +185,9 @@ module _ {K : Type 0} (keeps : K → K → FleetView → JournalEntry → Type 0
         legal_so : IsLegal (roll_of kernel) (start_state (roll_of kernel)) up.more
         legal_so = subst (λ (k : KernelView). IsLegal (roll_of k) (start_state (roll_of k)) k.log) grown_is legal
 
-        kept : HasKept keeps kernel.fleet begun mid (entries (roll_of kernel) (start_state (roll_of kernel)) up.more)
-        kept = subst (λ (log : List Event). HasKept keeps kernel.fleet begun mid (entries (roll_of kernel) (state_after (roll_of kernel) (start_state (roll_of kernel)) log) up.more)) none up.kept
+        kept : HasKept keeps kernel.fleet begun mid (entries (roll_of kernel) [] (start_state (roll_of kernel)) up.more)
+        kept =
+            subst (λ (log : List Event). HasKept keeps kernel.fleet begun mid (entries (roll_of kernel) log (state_after (roll_of kernel) (start_state (roll_of kernel)) log) up.more)) none up.kept
 
   pub play_kept_ahead : (kernel new : KernelView) (before begun after : K) → kernel.log ≡ [] → keeps before begun kernel.fleet (beginning kernel.start) → IsLegal (roll_of new) (start_state (roll_of new)) new.log
       → KeepsAhead keeps kernel new begun after → AreKeptAhead keeps kernel.fleet before after (new.log ∷ [])

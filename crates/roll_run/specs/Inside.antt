@@ -192,7 +192,7 @@ MayTurn asks refuses (Broken why) = MayBreak asks refuses why
 pub record KeepsUp {K : Type 0} (keeps : K → K → FleetView → JournalEntry → Type 0) (old new : KernelView) (before after : K) : Type 0 where
   pub more : List Event
   pub kernel : new ≡ grown old more
-  pub kept : HasKept keeps old.fleet before after (entries (roll_of old) (state_of old) more)
+  pub kept : HasKept keeps old.fleet before after (entries (roll_of old) old.log (state_of old) more)
 
 -- and at most one entry more
 pub record KeepsAhead {K : Type 0} (keeps : K → K → FleetView → JournalEntry → Type 0) (old new : KernelView) (before after : K) : Type 0 where

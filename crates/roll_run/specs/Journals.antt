@@ -9,28 +9,30 @@ use Rattle.event_log.specs.Events.{Event, set_aside, opened, claimed, reported, 
 use Rattle.event_log.specs.States.{State, start_state}
 use Rattle.event_log.specs.Logs.{IsLegal, next}
 
--- of so many plays the first is to begin; a play begins with these statuses; hosts are set aside; a batch of these is to open; the batch is over, with these statuses of all hosts; the play has ended so
+-- of so many plays the first is to begin; a play begins with these statuses; hosts are set aside; a batch of these is to open behind these events; it was refused; the batch is over, with these
+-- statuses of all hosts; the play has ended so
 pub data JournalEntry : Type 0 where
   heading : ℕ → JournalEntry
   beginning : List Status → JournalEntry
   aside : List ℕ → JournalEntry
-  opening : List ℕ → JournalEntry
+  opening : List Event → List ℕ → JournalEntry
+  refused : List Event → List ℕ → JournalEntry
   closing : List ℕ → List Status → JournalEntry
   ended : End → JournalEntry
 
--- what there is to keep of an event
-abbrev pub entries_at : Roll → State → Event → List JournalEntry
-entries_at roll state (set_aside hosts) = aside hosts ∷ []
-entries_at roll state (opened batch) = opening batch ∷ []
-entries_at roll state (claimed host step) = []
-entries_at roll state (reported host step ending) = []
-entries_at roll state (passed step) = []
-entries_at roll state closed = closing state.batch (next roll state closed).statuses ∷ []
+-- what there is to keep of an event behind these
+abbrev pub entries_at : Roll → List Event → State → Event → List JournalEntry
+entries_at roll behind state (set_aside hosts) = aside hosts ∷ []
+entries_at roll behind state (opened batch) = opening behind batch ∷ []
+entries_at roll behind state (claimed host step) = []
+entries_at roll behind state (reported host step ending) = []
+entries_at roll behind state (passed step) = []
+entries_at roll behind state closed = closing state.batch (next roll state closed).statuses ∷ []
 
--- and of a log that goes on from this state
-abbrev pub entries : Roll → State → List Event → List JournalEntry
-entries roll state [] = []
-entries roll state (event ∷ log) = entries_at roll state event ++ entries roll (next roll state event) log
+-- and of a log that goes on behind these, from this state
+abbrev pub entries : Roll → List Event → State → List Event → List JournalEntry
+entries roll behind state [] = []
+entries roll behind state (event ∷ log) = entries_at roll behind state event ++ entries roll (behind ++ event ∷ []) (next roll state event) log
 
 -- how the play has ended, where it has
 abbrev pub end_entries : Option End → List JournalEntry
@@ -39,16 +41,16 @@ end_entries (Some end) = ended end ∷ []
 
 -- and of a play with this log, which has ended so, or was broken off
 abbrev pub play_entries : Roll → List Event → Option End → List JournalEntry
-play_entries roll log end = beginning roll.start ∷ (entries roll (start_state roll) log ++ end_entries end)
+play_entries roll log end = beginning roll.start ∷ (entries roll [] (start_state roll) log ++ end_entries end)
 
 -- from one moment to another a keeper kept these, one after the other, and nothing else
 abbrev pub HasKept : {K : Type 0} → (K → K → FleetView → JournalEntry → Type 0) → FleetView → K → K → List JournalEntry → Type 0
 HasKept keeps fleet before after [] = after ≡ before
 HasKept {K} keeps fleet before after (first ∷ later) = (mid : K) × keeps before mid fleet first × HasKept keeps fleet mid after later
 
--- at most one entry more: of a batch that was to open, and was not opened
+-- at most one entry more: of a batch that was to open, and was refused or not opened
 abbrev pub IsAhead : {K : Type 0} → (K → K → FleetView → JournalEntry → Type 0) → FleetView → K → K → Type 0
-IsAhead keeps fleet before after = (after ≡ before) ⊎ ((batch : List ℕ) × keeps before after fleet (opening batch))
+IsAhead keeps fleet before after = (after ≡ before) ⊎ ((behind : List Event) × (batch : List ℕ) × (keeps before after fleet (opening behind batch) ⊎ keeps before after fleet (refused behind batch)))
 
 -- of each of these logs the keeper kept the entries, one play behind the other
 abbrev pub AreKept : {K : Type 0} → (K → K → FleetView → JournalEntry → Type 0) → FleetView → K → K → List (List Event) → Type 0

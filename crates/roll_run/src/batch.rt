@@ -73,11 +73,10 @@ where
     unreachable!()
 }
 
-/// Opens a batch that the keeper holds, and works on it until it is over. Where it isn't opened, nothing has changed.
-fn work_off<'f, 'b, R: Runner, L: Ledger, H: Wait, W: Watch, K: Keep>(
+/// Opens a batch, and works on it until it is over. Where it isn't opened, nothing has changed.
+fn work_off<'f, 'b, R: Runner, L: Ledger, H: Wait, W: Watch>(
     rt: &H,
     alloc: Global,
-    _keeper: &K,
     front: &mut Front<'f, R>,
     mut board: Board<'b, R, L, W>,
     batch: &[HostId],
@@ -87,7 +86,6 @@ where
     requires forks { front.old.forks ≡ board.kernel.forks }
     requires tallies { board.tallies ≡ 0 }
     requires some { 0 < length batch.now }
-    requires held { K.holds _keeper.now board.kernel.fleet (host_numbers batch.now) }
     ensures ok { IfOk result (HasRun (host_numbers batch.now) board.entry) }
     ensures err { IfErr result (λ refused. HasBroken (host_numbers batch.now) board.entry refused.1) }
     ensures why { IfErr result (λ refused. IsFaultIn front.old.forks (state_of refused.1.kernel) refused.0) }
@@ -127,13 +125,12 @@ where
     if !coordinator.attend.goes_on(coordinator.rt) {
         return Err((Break::Asked, board));
     }
-    if !keeper.opens(board.fleet(), batch) {
+    if !keeper.opens(board.fleet(), board.moment(), batch) {
         return Err((Break::Unkept, board));
     }
     match work_off(
         coordinator.rt,
         coordinator.alloc,
-        keeper,
         front,
         board,
         batch,

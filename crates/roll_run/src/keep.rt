@@ -1,14 +1,14 @@
 //! Whoever keeps what becomes of a run.
-ghost use Rattle.std.specs.Prelude.{◌≡◌, Bool, List, ℕ, false, true};
+ghost use Rattle.std.specs.Prelude.{◌≡◌, Bool, false, true};
 ghost use Rattle.domains.specs.FleetViews.{FleetView};
 ghost use Rattle.domains.specs.Ids.{host_numbers};
-ghost use Rattle.roll_run.specs.Journals.{JournalEntry, aside, beginning, closing, ended, heading, opening};
+ghost use Rattle.roll_run.specs.Journals.{JournalEntry, aside, beginning, closing, ended, heading, opening, refused};
 
 use domains::Fleet;
 use fleet_states::Status;
 use group_tree::HostId;
 use play_course::End;
-use roll_core::Unwatched;
+use roll_core::{Moment, Unwatched};
 
 /// Keeps what becomes of the hosts of a run, at its boundaries, so that it is known when the run is no more. Where an entry can't be kept, it refuses the
 /// next batch.
@@ -18,9 +18,6 @@ pub trait Keep: Drop {
 
     /// From the first moment to the second it was given this entry, of a fleet.
     ghost keeps: { Self → Self → FleetView → JournalEntry → Type 0 };
-
-    /// It holds that this batch of a fleet opens next.
-    ghost holds: { Self → FleetView → List ℕ → Type 0 };
 
     /// Of so many plays the first is to begin.
     fn plays_begin(&mut self, fleet: &Fleet, plays: usize)
@@ -34,10 +31,10 @@ pub trait Keep: Drop {
     fn sets_aside(&mut self, fleet: &Fleet, hosts: &[HostId])
         ensures { keeps self.old self.new fleet.now (aside (host_numbers hosts.now)) };
 
-    /// This batch is next. It is asked before any program of it is started; where it answers no, none is.
-    fn opens(&mut self, fleet: &Fleet, batch: &[HostId]) -> bool
-        ensures kept { keeps self.old self.new fleet.now (opening (host_numbers batch.now)) }
-        ensures holds { result ≡ true → holds self.new fleet.now (host_numbers batch.now) }
+    /// This batch is next, on a board that stands so: nothing of the batch has happened on it, and nothing can before the answer. If that is no, the batch doesn't open.
+    fn opens(&mut self, fleet: &Fleet, at: Moment<'_>, batch: &[HostId]) -> bool
+        ensures opened { result ≡ true → keeps self.old self.new fleet.now (opening at.entry (host_numbers batch.now)) }
+        ensures refused { result ≡ false → keeps self.old self.new fleet.now (refused at.entry (host_numbers batch.now)) }
         ensures refuses { result ≡ false → refuses ≡ true };
 
     /// The batch is over; of each host of the fleet its status now.
@@ -55,15 +52,13 @@ impl Keep for Unwatched {
 
     ghost keeps = { λ before after fleet entry. Unit {0} };
 
-    ghost holds = { λ keeper fleet batch. Unit {0} };
-
     fn plays_begin(&mut self, _fleet: &Fleet, _plays: usize) {}
 
     fn begins(&mut self, _fleet: &Fleet, _statuses: &[Status]) {}
 
     fn sets_aside(&mut self, _fleet: &Fleet, _hosts: &[HostId]) {}
 
-    fn opens(&mut self, _fleet: &Fleet, _batch: &[HostId]) -> bool {
+    fn opens(&mut self, _fleet: &Fleet, _at: Moment<'_>, _batch: &[HostId]) -> bool {
         true
     }
 

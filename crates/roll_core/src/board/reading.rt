@@ -13,6 +13,7 @@ ghost use Rattle.event_log.specs.Told.{AreTold};
 
 use crate::board::Board;
 use crate::event::Event;
+use crate::moment::Moment;
 use crate::runner::Runner;
 use crate::watch::Watch;
 use domains::Fleet;
@@ -35,6 +36,13 @@ impl<'f, R: Runner, L: Ledger, W: Watch> Board<'f, R, L, W> {
         ensures told { AreTold (R.may self.now.context.runner) (roll_of self.now.kernel) (start_state (roll_of self.now.kernel)) self.now.kernel.log }
     {
         self.kernel.log()
+    }
+
+    /// The board as it stands, and can't move on as long as this is held.
+    pub fn moment(&self) -> Moment<'_>
+        ensures { result ≡ self.now.kernel.log }
+    {
+        Moment::of(self.log())
     }
 
     pub fn fleet(&self) -> &'f Fleet

@@ -1,6 +1,8 @@
-use Rattle.std.proofs.Common.{◌≡◌, inr, refl, subst}
+use Rattle.std.proofs.Common.{◌≡◌, inr, List, refl, subst}
 use Rattle.domains.specs.Ids.{host_numbers}
-use Rattle.roll_run.specs.Journals.{opening}
+use Rattle.domains.specs.FleetViews.{FleetView}
+use Rattle.event_log.specs.Events.{Event}
+use Rattle.roll_run.specs.Journals.{opening, refused}
 use Rattle.roll_run.proofs.Keeping.{ahead_by_none, keeps_broken, keeps_run, keeps_still}
 use Rattle.roll_run.proofs.Passing.{breaks_at_once}
 use Rattle.roll_run.proofs.batch.run_batch.Goals as goal
@@ -19,15 +21,23 @@ returns-then-not-opens-clause-err g c = breaks_at_once c.args.board c.args.board
 pub returns-then-not-opens-clause-ahead : goal.returns-then-not-opens-clause-ahead
 returns-then-not-opens-clause-ahead g c =
     let kernel = c.args.board.kernel in
-    let kept = subst (λ f. g.K.Keep.keeps c.args.keeper.now c.opens.new.self f (opening (host_numbers c.args.batch.now))) c.fleet.ensures c.opens.ensures.kept in
-    record { mid = c.args.keeper.now; up = keeps_still g.K.Keep.keeps kernel kernel c.args.keeper.now refl; ahead = inr (host_numbers c.args.batch.now, kept) }
+    let batch = host_numbers c.args.batch.now in
+    let kept = subst (λ (l : List Event). g.K.Keep.keeps c.args.keeper.now c.opens.new.self kernel.fleet (refused l batch)) c.moment.ensures
+    (subst (λ (f : FleetView). g.K.Keep.keeps c.args.keeper.now c.opens.new.self f (refused c.moment.result batch)) c.fleet.ensures (c.opens.ensures.refused c.if-not-opens.true)) in
+    record { mid = c.args.keeper.now; up = keeps_still g.K.Keep.keeps kernel kernel c.args.keeper.now refl; ahead = inr (kernel.log, batch, inr kept) }
 
 pub returns-in-Ok-clause-kept : goal.returns-in-Ok-clause-kept
 returns-in-Ok-clause-kept g c =
-    let kept = subst (λ f. g.K.Keep.keeps c.args.keeper.now c.opens.new.self f (opening (host_numbers c.args.batch.now))) c.fleet.ensures c.opens.ensures.kept in
+    let kernel = c.args.board.kernel in
+    let batch = host_numbers c.args.batch.now in
+    let kept = subst (λ (l : List Event). g.K.Keep.keeps c.args.keeper.now c.opens.new.self kernel.fleet (opening l batch)) c.moment.ensures
+    (subst (λ (f : FleetView). g.K.Keep.keeps c.args.keeper.now c.opens.new.self f (opening c.moment.result batch)) c.fleet.ensures (c.opens.ensures.opened c.if-not-opens.false)) in
     keeps_run g.K.Keep.keeps c.args.board c.in-Ok.board (host_numbers c.args.batch.now) c.args.keeper.now c.opens.new.self c.in-Ok.ensures.ok kept
 
 pub returns-in-Err-clause-ahead : goal.returns-in-Err-clause-ahead
 returns-in-Err-clause-ahead g c =
-    let kept = subst (λ f. g.K.Keep.keeps c.args.keeper.now c.opens.new.self f (opening (host_numbers c.args.batch.now))) c.fleet.ensures c.opens.ensures.kept in
+    let kernel = c.args.board.kernel in
+    let batch = host_numbers c.args.batch.now in
+    let kept = subst (λ (l : List Event). g.K.Keep.keeps c.args.keeper.now c.opens.new.self kernel.fleet (opening l batch)) c.moment.ensures
+    (subst (λ (f : FleetView). g.K.Keep.keeps c.args.keeper.now c.opens.new.self f (opening c.moment.result batch)) c.fleet.ensures (c.opens.ensures.opened c.if-not-opens.false)) in
     keeps_broken g.K.Keep.keeps c.args.board c.in-Err.board (host_numbers c.args.batch.now) c.args.keeper.now c.opens.new.self c.in-Err.ensures.err kept
