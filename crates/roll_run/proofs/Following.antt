@@ -235,6 +235,16 @@ the_fault may fleet forks play statuses vars done last logs are = by done are.fi
     by (run ∷ rest) first [] (log ∷ logs) same broken = absurd broken.1
     by (run ∷ rest) first (more ∷ later) (log ∷ logs) same broken = absurd (cc)
 
+pub nothing_done : (may : Work → Ending → Type 0) (fleet : FleetView) (forks : ℕ) (play : Play) (statuses : List Status) (vars : List Vars) (done : List Run) (last : RunFault) (logs : List (List Event))
+    → AreBroken may fleet forks (play ∷ []) statuses vars done last logs → done ≡ []
+nothing_done may fleet forks play statuses vars done last logs are = by done are.first are.later logs are.plays_are are.broken
+  where
+    by : (done : List Run) (first : Play) (later : List Play) (logs : List (List Event)) → play ∷ [] ≡ first ∷ later → AreBrokenOff may fleet forks first later statuses vars done last logs → done ≡ []
+    by [] first later logs same broken = refl
+    by (run ∷ rest) first later [] same broken = absurd broken
+    by (run ∷ rest) first [] (log ∷ logs) same broken = absurd broken.1
+    by (run ∷ rest) first (more ∷ later) (log ∷ logs) same broken = absurd (cc)
+
 -- the first run, and those after it
 pub first_runs : (may : Work → Ending → Type 0) (fleet : FleetView) (forks : ℕ) (plays : List Play) (first : Play) (later : List Play) (statuses : List Status) (vars : List Vars) (run : Run) (log : List Event) (before new : List Run) (logs : List (List Event))
     → plays ≡ first ∷ later → before ≡ [] → IsRun may fleet (roll_by fleet first forks statuses vars) run log → HasRunAfter may fleet forks later run before new logs → AreRuns may fleet forks plays statuses vars new (log ∷ logs)

@@ -1,5 +1,5 @@
 -- What is kept of a log that grows.
-use Rattle.std.proofs.Common.{◌≡◌, ℕ, Bool, true, ◌&&◌, ◌⊎◌, inl, inr, Option, Some, None, List, [], ◌∷◌, ◌++◌, refl, sym, ap, ◌∙◌, subst, append_assoc}
+use Rattle.std.proofs.Common.{◌≡◌, ℕ, Bool, true, ◌&&◌, ◌⊎◌, inl, inr, Option, Some, None, List, [], ◌∷◌, ◌++◌, map, refl, sym, ap, ◌∙◌, subst, append_assoc}
 use Rattle.std.specs.List.{list_all}
 use Rattle.std.specs.Prelude.{Result, Ok, Err, IfErr, IfOk, OnErr}
 use Rattle.std.proofs.lemmas.Bool.{and_parts}
@@ -18,7 +18,7 @@ use Rattle.roll_core.specs.Boards.{BoardView, with_event}
 use Rattle.roll_core.specs.Views as kernels
 use Rattle.roll_run.specs.Histories.{Gains}
 use Rattle.roll_run.specs.Inside.{HasBroken, HasRun, HasSetAside, KeepsAhead, KeepsTurn, KeepsUp, grown}
-use Rattle.roll_run.specs.Journals.{AreKept, AreKeptAhead, HasKept, IsAhead, JournalEntry, aside, beginning, closing, end_entries, ended, entries, entries_at, opening}
+use Rattle.roll_run.specs.Journals.{AreKept, AreKeptAhead, HasKept, IsAhead, IsKeptAfter, IsKeptAheadAfter, JournalEntry, aside, beginning, closing, end_entries, ended, ends_of, entries, entries_at, opening}
 use Rattle.roll_run.specs.Runs.{setting_aside}
 use Rattle.roll_run.specs.declared.fault.Break.{Break}
 use Rattle.roll_run.specs.declared.fault.RunFault.{RunFault}
@@ -171,10 +171,10 @@ module _ {K : Type 0} (keeps : K → K → FleetView → JournalEntry → Type 0
 
   -- what is kept of a play from its beginning on
   module _ (kernel new : KernelView) (before begun mid : K) (none : kernel.log ≡ []) (begins : keeps before begun kernel.fleet (beginning kernel.start)) (legal : IsLegal (roll_of new) (start_state (roll_of new)) new.log) where
-    pub play_kept : (after : K) (end : Option End) → KeepsUp keeps kernel new begun mid → HasKept keeps kernel.fleet mid after (end_entries end) → AreKept keeps kernel.fleet before after (new.log ∷ [])
+    pub play_kept : (after : K) (end : Option End) → KeepsUp keeps kernel new begun mid → HasKept keeps kernel.fleet mid after (end_entries end) → AreKept keeps kernel.fleet before after (end ∷ []) (new.log ∷ [])
     play_kept after end up ends =
-        subst (λ (log : List Event). AreKept keeps kernel.fleet before after (log ∷ [])) (sym log_is)
-        (roll_of kernel, end, after, refl, legal_so, (begun, begins, kept_more kernel.fleet begun mid after (entries (roll_of kernel) [] (start_state (roll_of kernel)) up.more) (end_entries end) kept ends), refl)
+        subst (λ (log : List Event). AreKept keeps kernel.fleet before after (end ∷ []) (log ∷ [])) (sym log_is)
+        (roll_of kernel, after, refl, legal_so, (begun, begins, kept_more kernel.fleet begun mid after (entries (roll_of kernel) [] (start_state (roll_of kernel)) up.more) (end_entries end) kept ends), refl)
       where
         grown_is : new ≡ record kernel { log = up.more }
         grown_is = up.kernel ∙ ap (λ (log : List Event). record kernel { log = log ++ up.more }) none
@@ -190,9 +190,9 @@ module _ {K : Type 0} (keeps : K → K → FleetView → JournalEntry → Type 0
             subst (λ (log : List Event). HasKept keeps kernel.fleet begun mid (entries (roll_of kernel) log (state_after (roll_of kernel) (start_state (roll_of kernel)) log) up.more)) none up.kept
 
   pub play_kept_ahead : (kernel new : KernelView) (before begun after : K) → kernel.log ≡ [] → keeps before begun kernel.fleet (beginning kernel.start) → IsLegal (roll_of new) (start_state (roll_of new)) new.log
-      → KeepsAhead keeps kernel new begun after → AreKeptAhead keeps kernel.fleet before after (new.log ∷ [])
+      → KeepsAhead keeps kernel new begun after → AreKeptAhead keeps kernel.fleet before after [] (new.log ∷ [])
   play_kept_ahead kernel new before begun after none begins legal far =
-      record { mid = far.mid; kept = play_kept kernel new before begun far.mid none begins legal far.mid None far.up refl; ahead = far.ahead }
+      record { broken = None ∷ []; one = inr refl; mid = far.mid; kept = play_kept kernel new before begun far.mid none begins legal far.mid None far.up refl; ahead = far.ahead }
 
   -- so it is known of what a run leaves, whether it came to its end or not
   module _ (kernel new : KernelView) (before begun mid after : K) (old history : List (List Event)) (gone : Result End Break) (left : Result Run RunFault) (none : kernel.log ≡ []) (begins : keeps before begun kernel.fleet (beginning kernel.start))
@@ -201,22 +201,27 @@ module _ {K : Type 0} (keeps : K → K → FleetView → JournalEntry → Type 0
     IsLegalNow = IsLegal (roll_of new) (start_state (roll_of new)) new.log
 
     pub run_kept : IfOk left (λ (run : Run). gone ≡ Ok run.end) → IfOk left (λ (run : Run). IsLegalNow) → IfOk gone (λ (end : End). KeepsUp keeps kernel new begun mid) → IfOk gone (λ (end : End). keeps mid after kernel.fleet (ended end))
-        → IfOk left (λ (run : Run). Gains old history (AreKept keeps kernel.fleet before after))
+        → IfOk left (λ (run : Run). Gains old history (AreKept keeps kernel.fleet before after (Some run.end ∷ [])))
     run_kept ends legal up told = by left gone ends legal up told
       where
         by : (left : Result Run RunFault) (gone : Result End Break) → IfOk left (λ (run : Run). gone ≡ Ok run.end) → IfOk left (λ (run : Run). IsLegalNow) → IfOk gone (λ (end : End). KeepsUp keeps kernel new begun mid)
-            → IfOk gone (λ (end : End). keeps mid after kernel.fleet (ended end)) → IfOk left (λ (run : Run). Gains old history (AreKept keeps kernel.fleet before after))
+            → IfOk gone (λ (end : End). keeps mid after kernel.fleet (ended end)) → IfOk left (λ (run : Run). Gains old history (AreKept keeps kernel.fleet before after (Some run.end ∷ [])))
         by (Err fault) gone ends legal up told = tt
         by (Ok run) (Err why) ends legal up told = absurd (cc)
         by (Ok run) (Ok end) ends legal up told =
-            record { logs = new.log ∷ []; grown = gained; are = play_kept kernel new before begun mid none begins legal after (Some end) up (after, told, refl) }
+            let end_is : end ≡ run.end = cc in
+            record {
+              logs = new.log ∷ [];
+              grown = gained;
+              are = subst (λ (e : End). AreKept keeps kernel.fleet before after (Some e ∷ []) (new.log ∷ [])) end_is (play_kept kernel new before begun mid none begins legal after (Some end) up (after, told, refl));
+            }
 
     pub fault_kept : IfErr left (λ (fault : RunFault). gone ≡ Err fault.why) → IfErr left (λ (fault : RunFault). IsLegalNow) → IfErr gone (λ (why : Break). KeepsAhead keeps kernel new begun mid) → OnErr gone (after ≡ mid)
-        → IfErr left (λ (fault : RunFault). Gains old history (AreKeptAhead keeps kernel.fleet before after))
+        → IfErr left (λ (fault : RunFault). Gains old history (AreKeptAhead keeps kernel.fleet before after []))
     fault_kept ends legal far same = by left gone ends legal far same
       where
         by : (left : Result Run RunFault) (gone : Result End Break) → IfErr left (λ (fault : RunFault). gone ≡ Err fault.why) → IfErr left (λ (fault : RunFault). IsLegalNow) → IfErr gone (λ (why : Break). KeepsAhead keeps kernel new begun mid)
-            → OnErr gone (after ≡ mid) → IfErr left (λ (fault : RunFault). Gains old history (AreKeptAhead keeps kernel.fleet before after))
+            → OnErr gone (after ≡ mid) → IfErr left (λ (fault : RunFault). Gains old history (AreKeptAhead keeps kernel.fleet before after []))
         by (Ok run) gone ends legal far same = tt
         by (Err fault) (Ok end) ends legal far same = absurd (cc)
         by (Err fault) (Err why) ends legal far same = record {
@@ -226,30 +231,78 @@ module _ {K : Type 0} (keeps : K → K → FleetView → JournalEntry → Type 0
         }
 
   -- and of more plays
-  logs_kept : (fleet : FleetView) (before mid after : K) (first later : List (List Event)) → AreKept keeps fleet before mid first → AreKept keeps fleet mid after later → AreKept keeps fleet before after (first ++ later)
-  logs_kept fleet before mid after [] later same kept = subst (λ k. AreKept keeps fleet k after later) same kept
-  logs_kept fleet before mid after (log ∷ first) later kept more =
-      (kept.0, kept.1, kept.2, kept.3, kept.4, kept.5, logs_kept fleet kept.2 mid after first later kept.6 more)
+  logs_kept : (fleet : FleetView) (before mid after : K) (ends more : List (Option End)) (first later : List (List Event)) → AreKept keeps fleet before mid ends first → AreKept keeps fleet mid after more later
+      → AreKept keeps fleet before after (ends ++ more) (first ++ later)
+  logs_kept fleet before mid after [] more [] later same kept = subst (λ k. AreKept keeps fleet k after more later) same kept
+  logs_kept fleet before mid after [] more (log ∷ first) later kept further = absurd kept
+  logs_kept fleet before mid after (end ∷ ends) more [] later kept further = absurd kept
+  logs_kept fleet before mid after (end ∷ ends) more (log ∷ first) later kept further =
+      (kept.0, kept.1, kept.2, kept.3, kept.4, logs_kept fleet kept.1 mid after ends more first later kept.5 further)
 
-  module _ (fleet : FleetView) (before mid after : K) (old between new : List (List Event)) (one : Gains old between (AreKept keeps fleet before mid)) where
+  module _ (fleet : FleetView) (before mid after : K) (old between new : List (List Event)) (run : Run) (one : Gains old between (AreKept keeps fleet before mid (Some run.end ∷ []))) where
     all_grown : (more : List (List Event)) → new ≡ between ++ more → new ≡ old ++ (one.logs ++ more)
     all_grown more is = is ∙ ap (λ l. l ++ more) one.grown ∙ append_assoc old one.logs more
 
-    pub gains_kept : Gains between new (AreKept keeps fleet mid after) → Gains old new (AreKept keeps fleet before after)
-    gains_kept more =
-        record { logs = one.logs ++ more.logs; grown = all_grown more.logs more.grown; are = logs_kept fleet before mid after one.logs more.logs one.are more.are }
+    behind_kept : (rest : List Run) (logs : List (List Event)) → AreKept keeps fleet mid after (map Some (ends_of rest)) logs
+        → AreKept keeps fleet before after (map Some (ends_of (run ∷ rest))) (one.logs ++ logs)
+    behind_kept rest logs kept = logs_kept fleet before mid after (Some run.end ∷ []) (map Some (ends_of rest)) one.logs logs one.are kept
 
-    pub gains_ahead : Gains between new (AreKeptAhead keeps fleet mid after) → Gains old new (AreKeptAhead keeps fleet before after)
-    gains_ahead more = record {
-      logs = one.logs ++ more.logs;
-      grown = all_grown more.logs more.grown;
-      are = record { mid = more.are.mid; kept = logs_kept fleet before mid more.are.mid one.logs more.logs one.are more.are.kept; ahead = more.are.ahead };
+    behind_ahead : (rest : List Run) (logs : List (List Event)) → AreKeptAhead keeps fleet mid after (ends_of rest) logs → AreKeptAhead keeps fleet before after (ends_of (run ∷ rest)) (one.logs ++ logs)
+    behind_ahead rest logs far = record {
+      broken = far.broken;
+      one = far.one;
+      mid = far.mid;
+      kept = logs_kept fleet before mid far.mid (Some run.end ∷ []) (map Some (ends_of rest) ++ far.broken) one.logs logs one.are far.kept;
+      ahead = far.ahead;
     }
 
-  -- nothing was kept, and no log gained
-  pub none_kept : (fleet : FleetView) (before after : K) (history : List (List Event)) → after ≡ before → Gains history history (AreKept keeps fleet before after)
-  none_kept fleet before after history same = record { logs = []; grown = sym (append-nil history); are = same }
+    -- behind the run stand the rest
+    pub kept_first : (was now : List Run) → was ≡ [] → Gains between new (IsKeptAfter keeps fleet run was now mid after) → Gains old new (AreKept keeps fleet before after (map Some (ends_of now)))
+    kept_first was now none more = record {
+      logs = one.logs ++ more.logs;
+      grown = all_grown more.logs more.grown;
+      are = subst (λ (l : List Run). AreKept keeps fleet before after (map Some (ends_of l)) (one.logs ++ more.logs)) (sym (more.are.items ∙ ap (λ (l : List Run). l ++ run ∷ more.are.rest) none))
+          (behind_kept more.are.rest more.logs more.are.kept);
+    }
 
-  pub none_ahead : (fleet : FleetView) (before after : K) (history : List (List Event)) → after ≡ before → Gains history history (AreKeptAhead keeps fleet before after)
+    pub ahead_first : (was now : List Run) → was ≡ [] → Gains between new (IsKeptAheadAfter keeps fleet run was now mid after) → Gains old new (AreKeptAhead keeps fleet before after (ends_of now))
+    ahead_first was now none more = record {
+      logs = one.logs ++ more.logs;
+      grown = all_grown more.logs more.grown;
+      are = subst (λ (l : List Run). AreKeptAhead keeps fleet before after (ends_of l) (one.logs ++ more.logs)) (sym (more.are.items ∙ ap (λ (l : List Run). l ++ run ∷ more.are.rest) none))
+          (behind_ahead more.are.rest more.logs more.are.kept);
+    }
+
+    -- so they do behind one that was kept before
+    module _ (last : Run) (was mids now : List Run) (kept_is : mids ≡ was ++ last ∷ []) where
+      items_are : (rest : List Run) → now ≡ mids ++ run ∷ rest → now ≡ was ++ last ∷ (run ∷ rest)
+      items_are rest is = is ∙ ap (λ (l : List Run). l ++ run ∷ rest) kept_is ∙ append_assoc was (last ∷ []) (run ∷ rest)
+
+      pub kept_further : Gains between new (IsKeptAfter keeps fleet run mids now mid after) → Gains old new (IsKeptAfter keeps fleet last was now before after)
+      kept_further more = record {
+        logs = one.logs ++ more.logs;
+        grown = all_grown more.logs more.grown;
+        are = record { rest = run ∷ more.are.rest; items = items_are more.are.rest more.are.items; kept = behind_kept more.are.rest more.logs more.are.kept };
+      }
+
+      pub kept_ahead_further : Gains between new (IsKeptAheadAfter keeps fleet run mids now mid after) → Gains old new (IsKeptAheadAfter keeps fleet last was now before after)
+      kept_ahead_further more = record {
+        logs = one.logs ++ more.logs;
+        grown = all_grown more.logs more.grown;
+        are = record { rest = run ∷ more.are.rest; items = items_are more.are.rest more.are.items; kept = behind_ahead more.are.rest more.logs more.are.kept };
+      }
+
+  -- nothing was kept, and no log gained
+  pub none_further : (fleet : FleetView) (before after : K) (history : List (List Event)) (last : Run) (was now : List Run) → now ≡ was ++ last ∷ [] → after ≡ before
+      → Gains history history (IsKeptAfter keeps fleet last was now before after)
+  none_further fleet before after history last was now items same = record { logs = []; grown = sym (append-nil history); are = record { rest = []; items = items; kept = same } }
+
+  pub none_ahead : (fleet : FleetView) (before after : K) (history : List (List Event)) → after ≡ before → Gains history history (AreKeptAhead keeps fleet before after [])
   none_ahead fleet before after history same =
-      record { logs = []; grown = sym (append-nil history); are = record { mid = before; kept = refl; ahead = inl same } }
+      record { logs = []; grown = sym (append-nil history); are = record { broken = []; one = inl refl; mid = before; kept = refl; ahead = inl same } }
+
+  -- the play behind those that are done was broken off
+  pub broken_after : (fleet : FleetView) (before after : K) (old new : List (List Event)) (last : Run) (was now : List Run) → now ≡ was ++ last ∷ [] → Gains old new (AreKeptAhead keeps fleet before after [])
+      → Gains old new (IsKeptAheadAfter keeps fleet last was now before after)
+  broken_after fleet before after old new last was now items far =
+      record { logs = far.logs; grown = far.grown; are = record { rest = []; items = items; kept = far.are } }

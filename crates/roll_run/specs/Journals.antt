@@ -1,5 +1,5 @@
 -- What a journal holds of a run: a function of its log.
-use Rattle.std.specs.Prelude.{◌≡◌, ◌⊎◌, ℕ, Option, Some, None, List, [], ◌∷◌, ◌++◌}
+use Rattle.std.specs.Prelude.{◌≡◌, ◌⊎◌, ⊥, ℕ, Option, Some, None, List, [], ◌∷◌, ◌++◌, map}
 use Rattle.domains.specs.FleetViews.{FleetView}
 use Rattle.fleet_states.specs.declared.status.Status.{Status}
 use Rattle.fleet_states.specs.Groups.{groups_of}
@@ -8,6 +8,7 @@ use Rattle.event_log.specs.Rolls.{Roll}
 use Rattle.event_log.specs.Events.{Event, set_aside, opened, claimed, reported, passed, closed}
 use Rattle.event_log.specs.States.{State, start_state}
 use Rattle.event_log.specs.Logs.{IsLegal, next}
+use Rattle.roll_run.specs.declared.run.Run.{Run}
 
 -- of so many plays the first is to begin; a play begins with these statuses; hosts are set aside; a batch of these is to open behind these events; it was refused; the batch is over, with these
 -- statuses of all hosts; the play has ended so
@@ -52,14 +53,34 @@ HasKept {K} keeps fleet before after (first ∷ later) = (mid : K) × keeps befo
 abbrev pub IsAhead : {K : Type 0} → (K → K → FleetView → JournalEntry → Type 0) → FleetView → K → K → Type 0
 IsAhead keeps fleet before after = (after ≡ before) ⊎ ((behind : List Event) × (batch : List ℕ) × (keeps before after fleet (opening behind batch) ⊎ keeps before after fleet (refused behind batch)))
 
--- of each of these logs the keeper kept the entries, one play behind the other
-abbrev pub AreKept : {K : Type 0} → (K → K → FleetView → JournalEntry → Type 0) → FleetView → K → K → List (List Event) → Type 0
-AreKept keeps fleet before after [] = after ≡ before
-AreKept {K} keeps fleet before after (log ∷ logs) =
-    (roll : Roll) × (end : Option End) × (mid : K) × (roll.groups ≡ groups_of fleet) × IsLegal roll (start_state roll) log × HasKept keeps fleet before mid (play_entries roll log end) × AreKept keeps fleet mid after logs
+-- of plays that ended so, with these logs, the keeper kept the entries, one play behind the other
+abbrev pub AreKept : {K : Type 0} → (K → K → FleetView → JournalEntry → Type 0) → FleetView → K → K → List (Option End) → List (List Event) → Type 0
+AreKept keeps fleet before after [] [] = after ≡ before
+AreKept keeps fleet before after [] (log ∷ logs) = ⊥
+AreKept keeps fleet before after (end ∷ ends) [] = ⊥
+AreKept {K} keeps fleet before after (end ∷ ends) (log ∷ logs) =
+    (roll : Roll) × (mid : K) × (roll.groups ≡ groups_of fleet) × IsLegal roll (start_state roll) log × HasKept keeps fleet before mid (play_entries roll log end)
+    × AreKept keeps fleet mid after ends logs
 
--- and at most one entry more
-pub record AreKeptAhead {K : Type 0} (keeps : K → K → FleetView → JournalEntry → Type 0) (fleet : FleetView) (before after : K) (logs : List (List Event)) : Type 0 where
+-- one more play was broken off, or none was begun; and at most one entry more was kept
+pub record AreKeptAhead {K : Type 0} (keeps : K → K → FleetView → JournalEntry → Type 0) (fleet : FleetView) (before after : K) (ends : List End) (logs : List (List Event)) : Type 0 where
+  pub broken : List (Option End)
+  pub one : (broken ≡ []) ⊎ (broken ≡ None ∷ [])
   pub mid : K
-  pub kept : AreKept keeps fleet before mid logs
+  pub kept : AreKept keeps fleet before mid (map Some ends ++ broken) logs
   pub ahead : IsAhead keeps fleet mid after
+
+-- how these runs ended
+abbrev pub ends_of : List Run → List End
+ends_of runs = map (λ (run : Run). run.end) runs
+
+-- what was kept of the runs behind one, which stands behind these, as all of them are left; and the same ahead
+pub record IsKeptAfter {K : Type 0} (keeps : K → K → FleetView → JournalEntry → Type 0) (fleet : FleetView) (last : Run) (old new : List Run) (before after : K) (logs : List (List Event)) : Type 0 where
+  pub rest : List Run
+  pub items : new ≡ old ++ last ∷ rest
+  pub kept : AreKept keeps fleet before after (map Some (ends_of rest)) logs
+
+pub record IsKeptAheadAfter {K : Type 0} (keeps : K → K → FleetView → JournalEntry → Type 0) (fleet : FleetView) (last : Run) (old new : List Run) (before after : K) (logs : List (List Event)) : Type 0 where
+  pub rest : List Run
+  pub items : new ≡ old ++ last ∷ rest
+  pub kept : AreKeptAhead keeps fleet before after (ends_of rest) logs

@@ -1,5 +1,5 @@
 //! A run begins, and what it leaves.
-ghost use Rattle.std.specs.Prelude.{◌≡◌, ◌++◌, ◌∷◌, [], Err, IfErr, IfOk, None, Ok, OnErr, count_by, find, length};
+ghost use Rattle.std.specs.Prelude.{◌≡◌, ◌++◌, ◌∷◌, [], Err, IfErr, IfOk, None, Ok, OnErr, Some, count_by, find, length};
 ghost use Rattle.domains.specs.Patterns.{names_nothing};
 ghost use Rattle.play_course.specs.PlayPlans.{parts_of_play, targets};
 ghost use Rattle.roll_core.specs.Views.{event_of, roll_of};
@@ -127,8 +127,8 @@ where
     ensures ok { IfOk result (λ (run, after). IfOk run (λ run. Gains history after (IsRunOf (R.may setup.now.runner.now) setup.now.fleet.now (roll_by setup.now.fleet.now play.now setup.now.forks start.now.statuses.items start.now.vars.items) run))) }
     ensures err { IfOk result (λ (run, after). IfErr run (λ fault. Gains history after (IsOneBrokenOff (R.may setup.now.runner.now) setup.now.fleet.now (roll_by setup.now.fleet.now play.now setup.now.forks start.now.statuses.items start.now.vars.items) fault))) }
     ensures asked { IfOk result (λ (run, _). IfErr run (λ fault. MayBreak (A.asks coordinator.now.attend.now) K.refuses fault.why)) }
-    ensures kept { IfOk result (λ (run, after). IfOk run (λ _. Gains history after (AreKept K.keeps setup.now.fleet.now keeper.old keeper.new))) }
-    ensures ahead { IfOk result (λ (run, after). IfErr run (λ _. Gains history after (AreKeptAhead K.keeps setup.now.fleet.now keeper.old keeper.new))) }
+    ensures kept { IfOk result (λ (run, after). IfOk run (λ run. Gains history after (AreKept K.keeps setup.now.fleet.now keeper.old keeper.new (Some run.end ∷ [])))) }
+    ensures ahead { IfOk result (λ (run, after). IfErr run (λ _. Gains history after (AreKeptAhead K.keeps setup.now.fleet.now keeper.old keeper.new []))) }
     ensures none { IfErr result (λ back. back ≡ history) }
     ensures unkept { OnErr result (keeper.new ≡ keeper.old) }
     ensures forks { front.new.forks ≡ front.old.forks }

@@ -1,5 +1,5 @@
 //! A run of one play.
-ghost use Rattle.std.specs.Prelude.{◌≡◌, ◌<◌, ◌≤◌, IfErr, IfOk, None, find};
+ghost use Rattle.std.specs.Prelude.{◌≡◌, ◌<◌, ◌≤◌, ◌∷◌, [], IfErr, IfOk, None, Some, find};
 ghost use Rattle.domains.specs.Patterns.{names_nothing};
 ghost use Rattle.play_course.specs.PlayPlans.{parts_of_play};
 ghost use Rattle.roll_run.specs.Histories.{Gains};
@@ -52,8 +52,8 @@ pub fn run_play<
     ensures ok { IfOk result.0 (λ run. Gains history result.1 (IsRunOf (R.may runner.now) fleet.now (roll_by fleet.now play.now forks start.statuses.items start.vars.items) run)) }
     ensures err { IfErr result.0 (λ fault. Gains history result.1 (IsBrokenOrNotBegun (R.may runner.now) fleet.now (roll_by fleet.now play.now forks start.statuses.items start.vars.items) fault)) }
     ensures asked { IfErr result.0 (λ fault. MayBreak (A.asks coordinator.now.attend.now) K.refuses fault.why) }
-    ensures kept { IfOk result.0 (λ _. Gains history result.1 (AreKept K.keeps fleet.now keeper result.2)) }
-    ensures ahead { IfErr result.0 (λ _. Gains history result.1 (AreKeptAhead K.keeps fleet.now keeper result.2)) }
+    ensures kept { IfOk result.0 (λ run. Gains history result.1 (AreKept K.keeps fleet.now keeper result.2 (Some run.end ∷ []))) }
+    ensures ahead { IfErr result.0 (λ _. Gains history result.1 (AreKeptAhead K.keeps fleet.now keeper result.2 [])) }
 {
     let setup = Setup {
         fleet,

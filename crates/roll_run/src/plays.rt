@@ -1,10 +1,10 @@
 //! The runs of several plays on one pool.
-ghost use Rattle.std.specs.Prelude.{◌≡◌, ◌+◌, ◌<◌, ◌≤◌, ◌++◌, ◌∷◌, [], List, IfErr, IfOk, None, OnOk, find, length, vec_capacity, vec_len};
+ghost use Rattle.std.specs.Prelude.{◌≡◌, ◌+◌, ◌<◌, ◌≤◌, ◌++◌, ◌∷◌, [], List, IfErr, IfOk, None, OnOk, Some, find, length, map, vec_capacity, vec_len};
 ghost use Rattle.domains.specs.Patterns.{names_nothing};
 ghost use Rattle.play_course.specs.PlayPlans.{parts_of_play};
 ghost use Rattle.roll_run.specs.Histories.{Gains};
 ghost use Rattle.roll_run.specs.Inside.{HasBrokenAfter, HasRunAfter, IsReadyRun, is_finished};
-ghost use Rattle.roll_run.specs.Journals.{AreKept, AreKeptAhead};
+ghost use Rattle.roll_run.specs.Journals.{AreKept, AreKeptAhead, IsKeptAfter, IsKeptAheadAfter, ends_of};
 ghost use Rattle.roll_run.specs.Plays.{AreBroken, AreRuns, IsBrokenOrNotBegun, IsRunOf, MayStart};
 ghost use Rattle.roll_run.specs.Runs.{MayBreak, roll_by};
 
@@ -45,8 +45,8 @@ fn run_one<'f, R: Runner, H: Wait, A: Attend, W: Watch, K: Keep>(
     ensures ok { IfOk result.0 (λ run. Gains history result.1 (IsRunOf (R.may setup.now.runner.now) setup.now.fleet.now (roll_by setup.now.fleet.now play.now setup.now.forks start.statuses.items start.vars.items) run)) }
     ensures err { IfErr result.0 (λ fault. Gains history result.1 (IsBrokenOrNotBegun (R.may setup.now.runner.now) setup.now.fleet.now (roll_by setup.now.fleet.now play.now setup.now.forks start.statuses.items start.vars.items) fault)) }
     ensures asked { IfErr result.0 (λ fault. MayBreak (A.asks coordinator.now.attend.now) K.refuses fault.why) }
-    ensures kept { IfOk result.0 (λ _. Gains history result.1 (AreKept K.keeps setup.now.fleet.now keeper.old keeper.new)) }
-    ensures ahead { IfErr result.0 (λ _. Gains history result.1 (AreKeptAhead K.keeps setup.now.fleet.now keeper.old keeper.new)) }
+    ensures kept { IfOk result.0 (λ run. Gains history result.1 (AreKept K.keeps setup.now.fleet.now keeper.old keeper.new (Some run.end ∷ []))) }
+    ensures ahead { IfErr result.0 (λ _. Gains history result.1 (AreKeptAhead K.keeps setup.now.fleet.now keeper.old keeper.new [])) }
     ensures forks { front.new.forks ≡ front.old.forks }
 {
     watch.play_begins();
@@ -99,8 +99,8 @@ fn run_later<'f, R: Runner, H: Wait, A: Attend, W: Watch, K: Keep>(
     ensures ok { OnOk result.0 (Gains history result.1 (HasRunAfter (R.may setup.now.runner.now) setup.now.fleet.now setup.now.forks setup.now.plays.now before done.old.items done.new.items)) }
     ensures err { IfErr result.0 (λ fault. Gains history result.1 (HasBrokenAfter (R.may setup.now.runner.now) setup.now.fleet.now setup.now.forks setup.now.plays.now before done.old.items done.new.items fault)) }
     ensures asked { IfErr result.0 (λ fault. MayBreak (A.asks coordinator.now.attend.now) K.refuses fault.why) }
-    ensures kept { IfOk result.0 (λ _. Gains history result.1 (AreKept K.keeps setup.now.fleet.now keeper.old keeper.new)) }
-    ensures ahead { IfErr result.0 (λ _. Gains history result.1 (AreKeptAhead K.keeps setup.now.fleet.now keeper.old keeper.new)) }
+    ensures kept { OnOk result.0 (Gains history result.1 (IsKeptAfter K.keeps setup.now.fleet.now before done.old.items done.new.items keeper.old keeper.new)) }
+    ensures ahead { IfErr result.0 (λ _. Gains history result.1 (IsKeptAheadAfter K.keeps setup.now.fleet.now before done.old.items done.new.items keeper.old keeper.new)) }
     ensures forks { front.new.forks ≡ front.old.forks }
 {
     let [play, rest @ ..] = setup.plays else {
@@ -182,8 +182,8 @@ pub(crate) fn run_each<'f, R: Runner, H: Wait, A: Attend, W: Watch, K: Keep>(
     ensures ok { IfOk result.0 (λ runs. Gains history result.1 (AreRuns (R.may setup.now.runner.now) setup.now.fleet.now setup.now.forks setup.now.plays.now start.statuses.items start.vars.items runs.items)) }
     ensures err { IfErr result.0 (λ fault. Gains history result.1 (AreBroken (R.may setup.now.runner.now) setup.now.fleet.now setup.now.forks setup.now.plays.now start.statuses.items start.vars.items fault.done.items fault.last)) }
     ensures asked { IfErr result.0 (λ fault. MayBreak (A.asks coordinator.now.attend.now) K.refuses fault.last.why) }
-    ensures kept { IfOk result.0 (λ _. Gains history result.1 (AreKept K.keeps setup.now.fleet.now keeper.old keeper.new)) }
-    ensures ahead { IfErr result.0 (λ _. Gains history result.1 (AreKeptAhead K.keeps setup.now.fleet.now keeper.old keeper.new)) }
+    ensures kept { IfOk result.0 (λ runs. Gains history result.1 (AreKept K.keeps setup.now.fleet.now keeper.old keeper.new (map Some (ends_of runs.items)))) }
+    ensures ahead { IfErr result.0 (λ fault. Gains history result.1 (AreKeptAhead K.keeps setup.now.fleet.now keeper.old keeper.new (ends_of fault.done.items))) }
 {
     let [first, rest @ ..] = setup.plays else {
         unreachable!()

@@ -1,7 +1,7 @@
 //! The plays of a file on a pool of their own.
-ghost use Rattle.std.specs.Prelude.{◌≡◌, ◌<◌, IfErr, IfOk, length};
+ghost use Rattle.std.specs.Prelude.{◌≡◌, ◌<◌, IfErr, IfOk, Some, length, map};
 ghost use Rattle.roll_run.specs.Histories.{Gains};
-ghost use Rattle.roll_run.specs.Journals.{AreKept, AreKeptAhead};
+ghost use Rattle.roll_run.specs.Journals.{AreKept, AreKeptAhead, ends_of};
 ghost use Rattle.roll_run.specs.Plays.{AreBroken, AreRuns, MayStart};
 ghost use Rattle.roll_run.specs.Runs.{MayBreak};
 
@@ -38,8 +38,8 @@ fn run_with_all<'f, R: Runner, H: Wait, A: Attend, W: Watch, K: Keep>(
     ensures ok { IfOk result.0 (λ runs. Gains history result.1 (AreRuns (R.may setup.now.runner.now) setup.now.fleet.now setup.now.forks setup.now.plays.now start.statuses.items start.vars.items runs.items)) }
     ensures err { IfErr result.0 (λ fault. Gains history result.1 (AreBroken (R.may setup.now.runner.now) setup.now.fleet.now setup.now.forks setup.now.plays.now start.statuses.items start.vars.items fault.done.items fault.last)) }
     ensures asked { IfErr result.0 (λ fault. MayBreak (A.asks coordinator.now.attend.now) K.refuses fault.last.why) }
-    ensures kept { IfOk result.0 (λ _. Gains history result.1 (AreKept K.keeps setup.now.fleet.now keeper.old keeper.new)) }
-    ensures ahead { IfErr result.0 (λ _. Gains history result.1 (AreKeptAhead K.keeps setup.now.fleet.now keeper.old keeper.new)) }
+    ensures kept { IfOk result.0 (λ runs. Gains history result.1 (AreKept K.keeps setup.now.fleet.now keeper.old keeper.new (map Some (ends_of runs.items)))) }
+    ensures ahead { IfErr result.0 (λ fault. Gains history result.1 (AreKeptAhead K.keeps setup.now.fleet.now keeper.old keeper.new (ends_of fault.done.items))) }
 {
     if missing {
         let fault = RunsFault::before_a_log(coordinator.alloc, start.statuses);
@@ -74,8 +74,8 @@ fn with_workers<
     ensures ok { IfOk result.0 (λ runs. Gains history result.1 (AreRuns (R.may setup.now.runner.now) setup.now.fleet.now setup.now.forks setup.now.plays.now start.statuses.items start.vars.items runs.items)) }
     ensures err { IfErr result.0 (λ fault. Gains history result.1 (AreBroken (R.may setup.now.runner.now) setup.now.fleet.now setup.now.forks setup.now.plays.now start.statuses.items start.vars.items fault.done.items fault.last)) }
     ensures asked { IfErr result.0 (λ fault. MayBreak (A.asks coordinator.now.attend.now) K.refuses fault.last.why) }
-    ensures kept { IfOk result.0 (λ _. Gains history result.1 (AreKept K.keeps setup.now.fleet.now keeper result.2)) }
-    ensures ahead { IfErr result.0 (λ _. Gains history result.1 (AreKeptAhead K.keeps setup.now.fleet.now keeper result.2)) }
+    ensures kept { IfOk result.0 (λ runs. Gains history result.1 (AreKept K.keeps setup.now.fleet.now keeper result.2 (map Some (ends_of runs.items)))) }
+    ensures ahead { IfErr result.0 (λ fault. Gains history result.1 (AreKeptAhead K.keeps setup.now.fleet.now keeper result.2 (ends_of fault.done.items))) }
 {
     let rt = coordinator.rt;
     let alloc = coordinator.alloc;
@@ -90,8 +90,8 @@ fn with_workers<
             ensures ok { IfOk result.0 (λ runs. Gains history result.1 (AreRuns (R.may setup.entry.now.runner.now) setup.entry.now.fleet.now setup.entry.now.forks setup.entry.now.plays.now start.statuses.items start.vars.items runs.items)) }
             ensures err { IfErr result.0 (λ fault. Gains history result.1 (AreBroken (R.may setup.entry.now.runner.now) setup.entry.now.fleet.now setup.entry.now.forks setup.entry.now.plays.now start.statuses.items start.vars.items fault.done.items fault.last)) }
             ensures asked { IfErr result.0 (λ fault. MayBreak (A.asks coordinator.entry.now.attend.now) K.refuses fault.last.why) }
-            ensures kept { IfOk result.0 (λ _. Gains history result.1 (AreKept K.keeps setup.entry.now.fleet.now keeper result.2)) }
-            ensures ahead { IfErr result.0 (λ _. Gains history result.1 (AreKeptAhead K.keeps setup.entry.now.fleet.now keeper result.2)) }
+            ensures kept { IfOk result.0 (λ runs. Gains history result.1 (AreKept K.keeps setup.entry.now.fleet.now keeper result.2 (map Some (ends_of runs.items)))) }
+            ensures ahead { IfErr result.0 (λ fault. Gains history result.1 (AreKeptAhead K.keeps setup.entry.now.fleet.now keeper result.2 (ends_of fault.done.items))) }
         {
             let mut front = front;
             let mut missing = false;
@@ -139,8 +139,8 @@ pub fn run_plays<
     ensures ok { IfOk result.0 (λ runs. Gains history result.1 (AreRuns (R.may setup.now.runner.now) setup.now.fleet.now setup.now.forks setup.now.plays.now start.statuses.items start.vars.items runs.items)) }
     ensures err { IfErr result.0 (λ fault. Gains history result.1 (AreBroken (R.may setup.now.runner.now) setup.now.fleet.now setup.now.forks setup.now.plays.now start.statuses.items start.vars.items fault.done.items fault.last)) }
     ensures asked { IfErr result.0 (λ fault. MayBreak (A.asks coordinator.now.attend.now) K.refuses fault.last.why) }
-    ensures kept { IfOk result.0 (λ _. Gains history result.1 (AreKept K.keeps setup.now.fleet.now keeper result.2)) }
-    ensures ahead { IfErr result.0 (λ _. Gains history result.1 (AreKeptAhead K.keeps setup.now.fleet.now keeper result.2)) }
+    ensures kept { IfOk result.0 (λ runs. Gains history result.1 (AreKept K.keeps setup.now.fleet.now keeper result.2 (map Some (ends_of runs.items)))) }
+    ensures ahead { IfErr result.0 (λ fault. Gains history result.1 (AreKeptAhead K.keeps setup.now.fleet.now keeper result.2 (ends_of fault.done.items))) }
 {
     match pool(coordinator.alloc, setup.forks) {
         Ok((front, ends)) => with_workers(

@@ -1,7 +1,7 @@
 -- What the readers and the writers say, as `run` tells it.
-use Rattle.std.proofs.Common.{◌≡◌, ℕ, ◌+◌, Bool, List, [], ◌∷◌, ◌++◌, length, take, get_or, Option, Result, Ok, Err, refl, sym, ap, ◌∙◌, subst, inl, inr, arith}
+use Rattle.std.proofs.Common.{◌≡◌, ℕ, ◌+◌, Bool, List, [], ◌∷◌, ◌++◌, length, take, get_or, map, Option, Some, Result, Ok, Err, refl, sym, ap, ◌∙◌, subst, inl, inr, arith}
 use Rattle.std.proofs.Math.Seq.{take-length}
-use Rattle.std.proofs.lemmas.List.{take_more}
+use Rattle.std.proofs.lemmas.List.{append-nil, take_more}
 use Rattle.std.specs.Prelude.{IfOk, IfErr}
 use Rattle.std.specs.Io.KnownBytes.{Keeps}
 use Rattle.domains.specs.FleetViews.{FleetView}
@@ -11,6 +11,7 @@ use Rattle.planning.specs.PlanTexts.{IsPlaybookFault}
 use Rattle.planning.specs.declared.fault.PlanFault.{PlanFault}
 use Rattle.json_texts.specs.declared.form.Form.{Form}
 use Rattle.play_model.specs.declared.play.Play.{Play}
+use Rattle.play_course.specs.declared.end.End.{End}
 use Rattle.event_log.specs.Events.{Event}
 use Rattle.event_log.specs.Told.{Work}
 use Rattle.roll_run.specs.declared.run.Run.{Run}
@@ -143,20 +144,24 @@ module _ {K : Type 0} (keeps : K → K → FleetView → JournalEntry → Type 0
   headed_by : keeps before begun fleet (heading (length plays))
   headed_by = subst (λ (l : List Play). keeps before begun fleet (heading (length l))) are_lent begins
 
-  exactly : (logs : List (List Event)) → AreKept keeps fleet begun after logs → KeepsFrom keeps fleet plays before after logs
-  exactly logs is = record { begun = begun; begins = headed_by; kept = is }
+  module _ (ends : List End) where
+    exactly : (logs : List (List Event)) → AreKept keeps fleet begun after (map Some ends) logs → KeepsFrom keeps fleet plays before after logs
+    exactly logs is = record { begun = begun; begins = headed_by; ends = ends; kept = is }
 
-  far : (logs : List (List Event)) → AreKeptAhead keeps fleet begun after logs → KeepsAheadFrom keeps fleet plays before after logs
-  far logs is = record { begun = begun; begins = headed_by; ahead = is }
+    far : (logs : List (List Event)) → AreKeptAhead keeps fleet begun after ends logs → KeepsAheadFrom keeps fleet plays before after logs
+    far logs is = record { begun = begun; begins = headed_by; ends = ends; ahead = is }
 
-  pub keeps_runs : Gains old new (AreKept keeps fleet begun after) → Gains old new (KeepsFrom keeps fleet plays before after)
-  keeps_runs kept = gains_as old new exactly kept
+    pub keeps_runs : Gains old new (AreKept keeps fleet begun after (map Some ends)) → Gains old new (KeepsFrom keeps fleet plays before after)
+    keeps_runs kept = gains_as old new exactly kept
 
-  pub keeps_broken : Gains old new (AreKeptAhead keeps fleet begun after) → Gains old new (KeepsAheadFrom keeps fleet plays before after)
-  keeps_broken kept = gains_as old new far kept
+    pub keeps_broken : Gains old new (AreKeptAhead keeps fleet begun after ends) → Gains old new (KeepsAheadFrom keeps fleet plays before after)
+    keeps_broken kept = gains_as old new far kept
 
-  pub keeps_not_ahead : Gains old new (AreKept keeps fleet begun after) → Gains old new (KeepsAheadFrom keeps fleet plays before after)
-  keeps_not_ahead kept = gains_as old new (λ logs is. far logs (record { mid = after; kept = is; ahead = inl refl })) kept
+    pub keeps_not_ahead : Gains old new (AreKept keeps fleet begun after (map Some ends)) → Gains old new (KeepsAheadFrom keeps fleet plays before after)
+    keeps_not_ahead kept =
+        gains_as old new
+        (λ logs is. far logs (record { broken = []; one = inl refl; mid = after; kept = subst (λ (l : List (Option End)). AreKept keeps fleet begun after l logs) (sym (append-nil (map Some ends))) is; ahead = inl refl }))
+        kept
 
 -- what broke a run off may break its text off
 pub may_break : (form : Form) (asks refuses : Bool) (before : ℕ) (fleet : FleetView) (several : Bool) (done : List Run) (last : RunFault) (old new : Option (List ℕ)) (fault : RunTextFault)

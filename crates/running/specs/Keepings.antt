@@ -1,9 +1,10 @@
 -- What is kept of runs.
-use Rattle.std.specs.Prelude.{◌≡◌, ◌⊎◌, ℕ, List, [], length}
+use Rattle.std.specs.Prelude.{◌≡◌, ◌⊎◌, ℕ, Some, List, [], length, map}
 use Rattle.domains.specs.FleetViews.{FleetView}
 use Rattle.fleet_states.specs.declared.status.Status.{Status}
 use Rattle.host_vars.specs.declared.vars.Vars.{Vars}
 use Rattle.play_model.specs.declared.play.Play.{Play}
+use Rattle.play_course.specs.declared.end.End.{End}
 use Rattle.event_log.specs.Events.{Event}
 use Rattle.roll_run.specs.Journals.{AreKept, AreKeptAhead, JournalEntry, heading}
 use Rattle.running.specs.Inputs.{AreInputs}
@@ -12,13 +13,15 @@ use Rattle.running.specs.Inputs.{AreInputs}
 pub record KeepsFrom {K : Type 0} (keeps : K → K → FleetView → JournalEntry → Type 0) (fleet : FleetView) (plays : List Play) (before after : K) (logs : List (List Event)) : Type 0 where
   pub begun : K
   pub begins : keeps before begun fleet (heading (length plays))
-  pub kept : AreKept keeps fleet begun after logs
+  pub ends : List End
+  pub kept : AreKept keeps fleet begun after (map Some ends) logs
 
 -- the same, and at most one entry more
 pub record KeepsAheadFrom {K : Type 0} (keeps : K → K → FleetView → JournalEntry → Type 0) (fleet : FleetView) (plays : List Play) (before after : K) (logs : List (List Event)) : Type 0 where
   pub begun : K
   pub begins : keeps before begun fleet (heading (length plays))
-  pub ahead : AreKeptAhead keeps fleet begun after logs
+  pub ends : List End
+  pub ahead : AreKeptAhead keeps fleet begun after ends logs
 
 -- the same of the runs of the plays that two texts say, on the fleet of the inventory
 pub record KeepsRuns {K : Type 0} (keeps : K → K → FleetView → JournalEntry → Type 0) (inventory playbook : List ℕ) (before after : K) (logs : List (List Event)) : Type 0 where

@@ -1,4 +1,4 @@
-use Rattle.std.proofs.Common.{◌≡◌, ◌++◌, ◌∷◌, [], List, ap, ◌∙◌, subst, sym}
+use Rattle.std.proofs.Common.{◌≡◌, ◌++◌, ◌∷◌, [], List, Some, ap, ◌∙◌, subst, sym}
 use Rattle.std.specs.Prelude.{IfErr, IfOk}
 use Rattle.domains.specs.FleetViews.{FleetView}
 use Rattle.fleet_states.specs.declared.status.Status.{Status}
@@ -26,7 +26,7 @@ returns-clause-kept g c =
     (subst (λ (f : FleetView). keeps c.args.keeper.now c.begins.new.self f (beginning c.as_slice-statuses.result.now)) fleet_is c.begins.ensures) in
     let told = if_ok c.go_on-gone.result.0 (λ end here. subst (λ (f : FleetView). keeps c.go_on-gone.new.keeper c.keep_end.new.keeper f (ended end)) fleet_is here) c.keep_end.ensures.ok in
     let legal = if_ok c.leave.result.0 (λ run here. here.is_safe.legal) c.leave.ensures.ok in
-    subst (λ (f : FleetView). IfOk c.leave.result.0 (λ _. Gains c.args.history c.leave.result.1 (AreKept keeps f c.args.keeper.now c.keep_end.new.keeper))) (sym fleet_is)
+    subst (λ (f : FleetView). IfOk c.leave.result.0 (λ run. Gains c.args.history c.leave.result.1 (AreKept keeps f c.args.keeper.now c.keep_end.new.keeper (Some run.end ∷ [])))) (sym fleet_is)
     (run_kept keeps start.kernel new.kernel c.args.keeper.now c.begins.new.self c.go_on-gone.new.keeper c.keep_end.new.keeper c.args.history c.leave.result.1 c.go_on-gone.result.0 c.leave.result.0 none begins gained c.leave.ensures.end legal c.go_on-gone.ensures.kept told)
 
 pub returns-clause-ahead : goal.returns-clause-ahead
@@ -44,5 +44,5 @@ returns-clause-ahead g c =
     let begins = subst (λ (l : List Status). keeps c.args.keeper.now c.begins.new.self start.kernel.fleet (beginning l)) start_is
     (subst (λ (f : FleetView). keeps c.args.keeper.now c.begins.new.self f (beginning c.as_slice-statuses.result.now)) fleet_is c.begins.ensures) in
     let legal = if_err c.leave.result.0 (λ fault here. here.is_safe.legal) c.leave.ensures.err in
-    subst (λ (f : FleetView). IfErr c.leave.result.0 (λ _. Gains c.args.history c.leave.result.1 (AreKeptAhead keeps f c.args.keeper.now c.keep_end.new.keeper))) (sym fleet_is)
+    subst (λ (f : FleetView). IfErr c.leave.result.0 (λ _. Gains c.args.history c.leave.result.1 (AreKeptAhead keeps f c.args.keeper.now c.keep_end.new.keeper []))) (sym fleet_is)
     (fault_kept keeps start.kernel new.kernel c.args.keeper.now c.begins.new.self c.go_on-gone.new.keeper c.keep_end.new.keeper c.args.history c.leave.result.1 c.go_on-gone.result.0 c.leave.result.0 none begins gained c.leave.ensures.why legal c.go_on-gone.ensures.ahead c.keep_end.ensures.err)

@@ -9,7 +9,7 @@ use Rattle.roll_run.specs.Runs.{roll_by}
 use Rattle.roll_run.specs.Plays.{IsNotBegun, IsRollAfter}
 use Rattle.roll_run.specs.Inside.{HasBrokenAfter, HasRunAfter}
 use Rattle.roll_run.proofs.Following.{breaks_there, err_of, finished, gains_broken, gains_fault, gains_none, gains_run, if_err, if_ok, known_first, known_rest, no_play, none_left, ok_of, on_ok, plays_split, ready_run, same_length, stops_there, unfinished}
-use Rattle.roll_run.proofs.Keeping.{gains_ahead, gains_kept, none_ahead}
+use Rattle.roll_run.proofs.Keeping.{broken_after, kept_ahead_further, kept_further, none_ahead, none_further}
 use Rattle.roll_run.proofs.plays.+run_later.Goals as goal
 
 pub returns-in_default-clause-ok : goal.returns-in_default-clause-ok
@@ -94,18 +94,36 @@ pub returns-in-Ok-run-clause-kept : goal.returns-in-Ok-run-clause-kept
 returns-in-Ok-run-clause-kept g t c =
     let fleet = c.args.setup.now.fleet.now in
     let first = ok_of _ c.run_one-run.result.0 c.in-Ok-run.run' c.in-Ok-run.is c.run_one-run.ensures.kept in
-    if_ok c.run_later.result.0
-    (λ _. gains_kept g.K.Keep.keeps fleet c.args.keeper.now c.run_one-run.new.keeper c.run_later.new.keeper c.args.history c.run_one-run.result.1 c.run_later.result.1 first) c.run_later.ensures.kept
+    on_ok c.run_later.result.0
+    (kept_further g.K.Keep.keeps fleet c.args.keeper.now c.run_one-run.new.keeper c.run_later.new.keeper c.args.history c.run_one-run.result.1 c.run_later.result.1 c.in-Ok-run.run' first
+    c.args.before c.args.done.now.items c.keep-in-Ok.new.items.items c.run_later.new.done.items c.keep-in-Ok.ensures.items) c.run_later.ensures.kept
 
 pub returns-in-Ok-run-clause-ahead : goal.returns-in-Ok-run-clause-ahead
 returns-in-Ok-run-clause-ahead g t c =
     let fleet = c.args.setup.now.fleet.now in
     let first = ok_of _ c.run_one-run.result.0 c.in-Ok-run.run' c.in-Ok-run.is c.run_one-run.ensures.kept in
     if_err c.run_later.result.0
-    (λ _. gains_ahead g.K.Keep.keeps fleet c.args.keeper.now c.run_one-run.new.keeper c.run_later.new.keeper c.args.history c.run_one-run.result.1 c.run_later.result.1 first) c.run_later.ensures.ahead
+    (λ _. kept_ahead_further g.K.Keep.keeps fleet c.args.keeper.now c.run_one-run.new.keeper c.run_later.new.keeper c.args.history c.run_one-run.result.1 c.run_later.result.1 c.in-Ok-run.run' first
+    c.args.before c.args.done.now.items c.keep-in-Ok.new.items.items c.run_later.new.done.items c.keep-in-Ok.ensures.items) c.run_later.ensures.ahead
 
 pub returns-in-Err-clause-ahead : goal.returns-in-Err-clause-ahead
-returns-in-Err-clause-ahead g t c = none_ahead g.K.Keep.keeps c.args.setup.now.fleet.now c.args.keeper.now c.args.keeper.now c.args.history refl
+returns-in-Err-clause-ahead g t c =
+    broken_after g.K.Keep.keeps c.args.setup.now.fleet.now c.args.keeper.now c.args.keeper.now c.args.history c.args.history c.args.before c.args.done.now.items c.keep-in-Err.new.items.items c.keep-in-Err.ensures.items
+    (none_ahead g.K.Keep.keeps c.args.setup.now.fleet.now c.args.keeper.now c.args.keeper.now c.args.history refl)
+
+pub returns-in-Err-run-clause-ahead : goal.returns-in-Err-run-clause-ahead
+returns-in-Err-run-clause-ahead g t c =
+    broken_after g.K.Keep.keeps c.args.setup.now.fleet.now c.args.keeper.now c.run_one-run.new.keeper c.args.history c.run_one-run.result.1 c.args.before c.args.done.now.items c.keep-in-Ok.new.items.items c.keep-in-Ok.ensures.items
+    (err_of _ c.run_one-run.result.0 c.in-Err-run.fault c.in-Err-run.is c.run_one-run.ensures.ahead)
+
+pub returns-in_default-clause-kept : goal.returns-in_default-clause-kept
+returns-in_default-clause-kept g t c =
+    none_further g.K.Keep.keeps c.args.setup.now.fleet.now c.args.keeper.now c.args.keeper.now c.args.history c.args.before c.args.done.now.items c.keep.new.items.items c.keep.ensures.items refl
+
+pub returns-then-not-is_finished-clause-kept : goal.returns-then-not-is_finished-clause-kept
+returns-then-not-is_finished-clause-kept g t c =
+    none_further g.K.Keep.keeps c.args.setup.now.fleet.now c.args.keeper.now c.args.keeper.now c.args.history c.args.before c.args.done.now.items c.keep-then-not-is_finished.new.items.items
+    c.keep-then-not-is_finished.ensures.items refl
 
 pub returns-in-Err-run-clause-err : goal.returns-in-Err-run-clause-err
 returns-in-Err-run-clause-err g t c =

@@ -5,10 +5,12 @@ use Rattle.play_model.specs.declared.play.Play.{Play}
 use Rattle.play_course.specs.PlayPlans.{named_parts}
 use Rattle.event_log.specs.Events.{Event}
 use Rattle.roll_run.specs.declared.run.Run.{Run}
+use Rattle.roll_run.specs.Histories.{Gains}
+use Rattle.roll_run.specs.Journals.{AreKeptAhead, ends_of}
 use Rattle.roll_run.specs.Runs.{roll_by}
 use Rattle.roll_run.specs.Plays.{AreBroken, AreBrokenOff}
 use Rattle.roll_run.proofs.Following.{done_of, err_of, first_broken, first_runs, gains_as, gains_more, gains_none, known_first, known_rest, ok_of, plays_split, ready_run, unbegun_runs}
-use Rattle.roll_run.proofs.Keeping.{gains_ahead, gains_kept}
+use Rattle.roll_run.proofs.Keeping.{ahead_first, kept_first, none_ahead}
 use Rattle.roll_run.proofs.plays.run_each.Goals as goal
 
 pub returns-in_default-places-clause-err : goal.returns-in_default-places-clause-err
@@ -73,11 +75,23 @@ returns-in-Err-clause-err g c =
 pub returns-in-Ok-ended-clause-kept : goal.returns-in-Ok-ended-clause-kept
 returns-in-Ok-ended-clause-kept g c =
     let first = ok_of _ c.run_one-run.result.0 c.in-Ok-run.run' c.in-Ok-run.is c.run_one-run.ensures.kept in
-    let more = ok_of _ c.run_later-ended.result.0 c.in-Ok-ended.field-0 c.in-Ok-ended.is c.run_later-ended.ensures.kept in
-    gains_kept g.K.Keep.keeps c.args.setup.now.fleet.now c.args.keeper.now c.run_one-run.new.keeper c.run_later-ended.new.keeper c.args.history c.run_one-run.result.1 c.run_later-ended.result.1 first more
+    let more = done_of c.run_later-ended.result.0 c.in-Ok-ended.field-0 c.in-Ok-ended.is c.run_later-ended.ensures.kept in
+    kept_first g.K.Keep.keeps c.args.setup.now.fleet.now c.args.keeper.now c.run_one-run.new.keeper c.run_later-ended.new.keeper c.args.history c.run_one-run.result.1 c.run_later-ended.result.1 c.in-Ok-run.run' first
+    c.in-Ok.done.items c.run_later-ended.new.done.items c.in-Ok.ensures.done.0 more
 
 pub returns-in-Err-ended-clause-ahead : goal.returns-in-Err-ended-clause-ahead
 returns-in-Err-ended-clause-ahead g c =
     let first = ok_of _ c.run_one-run.result.0 c.in-Ok-run.run' c.in-Ok-run.is c.run_one-run.ensures.kept in
     let more = err_of _ c.run_later-ended.result.0 c.in-Err-ended.last c.in-Err-ended.is c.run_later-ended.ensures.ahead in
-    gains_ahead g.K.Keep.keeps c.args.setup.now.fleet.now c.args.keeper.now c.run_one-run.new.keeper c.run_later-ended.new.keeper c.args.history c.run_one-run.result.1 c.run_later-ended.result.1 first more
+    ahead_first g.K.Keep.keeps c.args.setup.now.fleet.now c.args.keeper.now c.run_one-run.new.keeper c.run_later-ended.new.keeper c.args.history c.run_one-run.result.1 c.run_later-ended.result.1 c.in-Ok-run.run' first
+    c.in-Ok.done.items c.run_later-ended.new.done.items c.in-Ok.ensures.done.0 more
+
+pub returns-in_default-places-clause-ahead : goal.returns-in_default-places-clause-ahead
+returns-in_default-places-clause-ahead g c =
+    subst (λ (l : List Run). Gains c.args.history c.args.history (AreKeptAhead g.K.Keep.keeps c.args.setup.now.fleet.now c.args.keeper.now c.args.keeper.now (ends_of l))) (sym c.before_a_log.ensures.done)
+    (none_ahead g.K.Keep.keeps c.args.setup.now.fleet.now c.args.keeper.now c.args.keeper.now c.args.history refl)
+
+pub returns-in-Err-clause-ahead : goal.returns-in-Err-clause-ahead
+returns-in-Err-clause-ahead g c =
+    subst (λ (l : List Run). Gains c.args.history c.run_one-run.result.1 (AreKeptAhead g.K.Keep.keeps c.args.setup.now.fleet.now c.args.keeper.now c.run_one-run.new.keeper (ends_of l))) (sym c.in-Ok.ensures.done.0)
+    (err_of _ c.run_one-run.result.0 c.in-Err.last c.in-Err.is c.run_one-run.ensures.ahead)

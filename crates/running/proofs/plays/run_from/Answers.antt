@@ -4,6 +4,7 @@ use Rattle.domains.specs.Patterns.{names_nothing}
 use Rattle.play_course.specs.PlayPlans.{named_parts}
 use Rattle.play_model.specs.declared.play.Play.{Play}
 use Rattle.roll_run.specs.declared.run.Run.{Run}
+use Rattle.roll_run.specs.Journals.{ends_of}
 use Rattle.roll_run.proofs.Following.{err_of, ok_of}
 use Rattle.running.proofs.LeftLemmas.{ends_with_broken, ends_with_done}
 use Rattle.running.proofs.PlayLemmas.{known_from}
@@ -73,20 +74,20 @@ returns-in-Ok-clause-kept g c =
     let kept = ok_of _ c.run_plays-ran.result.0 c.in-Ok.runs c.in-Ok.is c.run_plays-ran.ensures.kept in
     all_ok c.tell_runs-told.result
     (keeps_runs g.K.Keep.keeps c.args.keeper c.plays_begin-2.new.self c.run_plays-ran.result.2 c.args.fleet.now (plays_from c.args.beginning c.args.plays.now) c.behind-coming.result.now
-    c.args.history c.run_plays-ran.result.1 c.behind-coming.ensures c.plays_begin-2.ensures kept)
+    c.args.history c.run_plays-ran.result.1 c.behind-coming.ensures c.plays_begin-2.ensures (ends_of c.in-Ok.runs.items) kept)
 
 pub returns-in-Ok-clause-ahead : goal.returns-in-Ok-clause-ahead
 returns-in-Ok-clause-ahead g c =
     let kept = ok_of _ c.run_plays-ran.result.0 c.in-Ok.runs c.in-Ok.is c.run_plays-ran.ensures.kept in
     all_err c.tell_runs-told.result
     (keeps_not_ahead g.K.Keep.keeps c.args.keeper c.plays_begin-2.new.self c.run_plays-ran.result.2 c.args.fleet.now (plays_from c.args.beginning c.args.plays.now) c.behind-coming.result.now
-    c.args.history c.run_plays-ran.result.1 c.behind-coming.ensures c.plays_begin-2.ensures kept)
+    c.args.history c.run_plays-ran.result.1 c.behind-coming.ensures c.plays_begin-2.ensures (ends_of c.in-Ok.runs.items) kept)
 
 pub returns-after-matches-clause-ahead : goal.returns-after-matches-clause-ahead
 returns-after-matches-clause-ahead g c =
     let ahead = err_of _ c.run_plays-ran.result.0 c.in-Err.fault c.in-Err.is c.run_plays-ran.ensures.ahead in
     keeps_broken g.K.Keep.keeps c.args.keeper c.plays_begin-2.new.self c.run_plays-ran.result.2 c.args.fleet.now (plays_from c.args.beginning c.args.plays.now) c.behind-coming.result.now
-    c.args.history c.run_plays-ran.result.1 c.behind-coming.ensures c.plays_begin-2.ensures ahead
+    c.args.history c.run_plays-ran.result.1 c.behind-coming.ensures c.plays_begin-2.ensures (ends_of c.in-Err.fault.done.items) ahead
 
 pub returns-after-matches-clause-asked : goal.returns-after-matches-clause-asked
 returns-after-matches-clause-asked g c =
