@@ -1,5 +1,5 @@
 -- What a run reads of the file that it locks.
-use Rattle.std.specs.Prelude.{ℕ, Bool, List, Option, ⊤, string_bytes}
+use Rattle.std.specs.Prelude.{ℕ, Bool, List, Option, ⊤, ⊥, string_bytes}
 use Rattle.command_line.specs.declared.command.Source.{Source}
 use Rattle.command_line.specs.declared.command.Source.TheVariants.{StandardInput, File}
 use Rattle.rollout.specs.Inputs.{IsFaultOfFile, IsTextOfFile}
@@ -17,6 +17,12 @@ IsGivenOf known (Fault fault) = IsFaultOfFile known fault
 abbrev pub IsGiven : Files → Source → declared.Given → Type 0
 IsGiven files StandardInput given = ⊤
 IsGiven files (File name) given = IsGivenOf (files (string_bytes name)) given
+
+-- it was read, or can't be
+abbrev pub IsRead : declared.Given → Type 0
+IsRead Nothing = ⊥
+IsRead (Text text) = ⊤
+IsRead (Fault fault) = ⊤
 
 -- it was read from a reader of the file that was opened
 abbrev pub IsReadFrom : Option (List ℕ) → Bool → declared.Given → Type 0

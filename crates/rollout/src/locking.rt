@@ -1,6 +1,6 @@
 //! The locks of a run: two runs that know nothing of each other would together take more hosts down than a group may lose.
-ghost use Rattle.std.specs.Prelude.{◌≡◌, IfErr, IfOk};
-ghost use Rattle.rollout.specs.Locks.{IsGiven, IsReadFrom};
+ghost use Rattle.std.specs.Prelude.{◌≡◌, IfErr, IfOk, None, is_some, true};
+ghost use Rattle.rollout.specs.Locks.{IsGiven, IsRead, IsReadFrom};
 ghost use Rattle.rollout.specs.Rolls.{IsRefusedBy, IsUnlockable};
 
 use crate::fault::Fault;
@@ -70,6 +70,7 @@ fn hold_inventory<S: System, T: Watch>(
     inventory: &Source,
 ) -> Result<Held<S::Lock>, Fault>
     ensures ok { IfOk result (λ held. IsGiven (S.files system.now) inventory.now held.given) }
+    ensures read { IfOk result (λ held. is_some held.lock ≡ true → IsRead held.given) }
     ensures err { IfErr result (IsRefusedBy (S.files system.now)) }
 {
     let name = match inventory {
@@ -88,7 +89,8 @@ fn hold_inventory<S: System, T: Watch>(
 
 /// Reads the file whose lock is held.
 fn read_held<L: Input>(alloc: Global, mut lock: L) -> Held<L>
-    ensures { IsReadFrom (L.remaining lock) (L.is_reliable lock) result.given }
+    ensures from { IsReadFrom (L.remaining lock) (L.is_reliable lock) result.given }
+    ensures read { IsRead result.given }
 {
     let given = match read_input(alloc, &mut lock) {
         Ok(text) => Given::Text(text),
@@ -101,7 +103,8 @@ fn read_held<L: Input>(alloc: Global, mut lock: L) -> Held<L>
 }
 
 fn held_unread<L>(lock: Option<L>) -> Held<L>
-    ensures { result.given ≡ Given.Nothing }
+    ensures unread { result.given ≡ Given.Nothing }
+    ensures lock { result.lock ≡ lock }
 {
     Held {
         lock,
@@ -110,7 +113,8 @@ fn held_unread<L>(lock: Option<L>) -> Held<L>
 }
 
 fn without_lock<L, T: Watch>(watch: &mut T) -> Held<L>
-    ensures { result.given ≡ Given.Nothing }
+    ensures unread { result.given ≡ Given.Nothing }
+    ensures lock { result.lock ≡ None }
 {
     watch.note(b"note: the inventory has no lock: another run of it is not kept out\n");
     held_unread(None)
