@@ -76,12 +76,13 @@ Keeps contents is_new inventory playbook fleet (closing batch statuses) old was 
 Keeps contents is_new inventory playbook fleet (ended end) old was new whole =
     Adds contents (entry_text fleet (entry_of inventory playbook (ended end))) old was new whole
 
--- if a batch may open, the journal has all that was to be kept, the line of the batch too, and is on the disk
+-- If a batch may open, the journal has all that was to be kept, the line of the batch too, and is on the disk. A batch is refused only if it lacks something. Behind the end of a play it is on the
+-- disk, if it lacks nothing.
 abbrev pub IsHeld : {F : Type 0} → (F → Type 0) → JournalEntry → F → Bool → Type 0
 IsHeld on_disk (heading plays) file whole = Unit {0}
 IsHeld on_disk (beginning statuses) file whole = Unit {0}
 IsHeld on_disk (aside hosts) file whole = Unit {0}
 IsHeld on_disk (opening behind batch) file whole = (whole ≡ true) × on_disk file
-IsHeld on_disk (refused behind batch) file whole = Unit {0}
+IsHeld on_disk (refused behind batch) file whole = whole ≡ false
 IsHeld on_disk (closing batch statuses) file whole = Unit {0}
-IsHeld on_disk (ended end) file whole = Unit {0}
+IsHeld on_disk (ended end) file whole = whole ≡ true → on_disk file
