@@ -110,7 +110,7 @@ impl Kind {
             ),
             Kind::ChangedGuard => warning(
                 "changed-guard",
-                "a second run after a failure changes nothing and skips this step; test the state of the host instead",
+                "a second run after a failure changes nothing and skips this step; use a handler, which runs on a repaired host, or test the host's state",
             ),
             Kind::ShellWord => warning(
                 "shell-word",
