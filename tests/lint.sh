@@ -351,6 +351,7 @@ shell-word at=0/tasks/5 word=a $AB b $ABCd'
 noted 'a program of several words, behind the first word of a shell' "$one" "[$(play '{"command":{"argv":["a b","|"]}},{"command":{"argv":["a\tb {{ inventory_hostname }}"]}},{"command":{"argv":["{{ inventory_hostname }} a"]}},{"command":{"argv":["a{b c"]}}')]" 'shell-word at=0/tasks/0 word=|
 shell-word at=0/tasks/0 word=a b
 shell-word at=0/tasks/1 word=a?b {{ inventory_hostname }}'
+noted 'a variable that a shell would set, in place of a program' "$one" "[$(play '{"command":"KUBECONFIG=x kubectl get"},{"command":"env A=b c"},{"command":"a b=c"}')]" 'shell-word at=0/tasks/0 word=KUBECONFIG=x'
 noted 'a script of several words for ssh, the first of each step' "$one" "[$(play '{"command":{"argv":["ssh","h","sh","-c","a b"]}},{"command":{"argv":["/usr/bin/ssh","h","psql","-c","a {{ inventory_hostname }}"]}},{"command":{"argv":["sudo","ssh","h","sh","-lc","a","-ec","b c","-xc","d e"]}}')]" 'shell-word at=0/tasks/0 word=a b
 shell-word at=0/tasks/1 word=a {{ inventory_hostname }}
 shell-word at=0/tasks/2 word=b c'

@@ -297,10 +297,10 @@ def _is_expanded(word, scripted):
 
 
 def _program_note(at, step):
-    """Of a program whose name has whitespace, before what may be a placeholder."""
+    """Of a program whose name has whitespace, before what may be a placeholder, or sets a variable."""
     program = step.words[0]
     plain = program if turned("lint-programs-with-holes-are-not-known") else program.split("{")[0]
-    return f"shell-word {at} word={printed(program)}" if re.search(r"[ \t\n\r]", plain) else None
+    return f"shell-word {at} word={printed(program)}" if re.search(r"[ \t\n\r]", plain) or "=" in program else None
 
 
 def _script_note(at, step):

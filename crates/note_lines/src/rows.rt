@@ -114,7 +114,7 @@ impl Kind {
             ),
             Kind::ShellWord => warning(
                 "shell-word",
-                "no shell runs here; use {\"argv\": [\"sh\", \"-c\", \"ps | grep x\"]}, or two steps instead of && and ;",
+                "no shell runs here; use {\"argv\": [\"sh\", \"-c\", \"ps | grep x\"]}, or two steps; ssh joins its arguments, so quote a script once more",
             ),
             Kind::DashName => warning(
                 "dash-name",

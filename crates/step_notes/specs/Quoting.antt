@@ -6,7 +6,7 @@ use Rattle.group_tree.specs.Names.{Name, is_among}
 use Rattle.text_parts.specs.Words.{is_blank}
 use Rattle.play_model.specs.declared.step.Step.{Step}
 use Rattle.note_lines.specs.Notes.{Note, blank_program, lost_quotes}
-use Rattle.step_notes.specs.Programs.{calls_ssh}
+use Rattle.step_notes.specs.Programs.{calls_ssh, has_equals}
 use Rattle.note_lines.specs.declared.step_path.StepPath.{StepPath}
 
 abbrev pub has_blank : Name → Bool
@@ -20,10 +20,13 @@ plain_bytes word = prefix_len (λ byte. not (byte == 123)) word
 abbrev pub is_several : Name → Bool
 is_several word = has_blank (take (plain_bytes word) word)
 
--- the program, where its name is of several words
+-- no name of a program: it is of several words, or sets a variable as a shell would
+abbrev pub is_no_program : Name → Bool
+is_no_program word = is_several word || has_equals word
+
 abbrev pub blank_program_of : List Name → Option Name
 blank_program_of [] = None
-blank_program_of (program ∷ words) = if is_several program then Some program else None
+blank_program_of (program ∷ words) = if is_no_program program then Some program else None
 
 abbrev pub blank_note : StepPath → Step → Option Note
 blank_note at step = option_map (blank_program at) (blank_program_of step.words)

@@ -53,7 +53,7 @@ pub(crate) fn is_dashed(word: &str) -> bool
     byte_at(word.as_bytes(), 0) == b'-'
 }
 
-fn has_equals(word: &str) -> bool
+pub(crate) fn has_equals(word: &str) -> bool
     ensures { result ≡ model.has_equals word.now }
 {
     word.as_bytes().iter().any(|byte| *byte == b'=')

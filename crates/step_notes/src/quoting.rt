@@ -4,7 +4,7 @@ ghost use Rattle.fleet_numbers.specs.NumberLists.{list_at};
 ghost use Rattle.note_lines.specs.Notes.{seen};
 ghost use Rattle.step_notes.specs.Quoting as model;
 
-use crate::programs::calls_ssh;
+use crate::programs::{calls_ssh, has_equals};
 use fleet_notes::{byte_at, first_bytes};
 use note_lines::{Note, StepPath};
 use play_model::{Step, Words};
@@ -32,13 +32,20 @@ fn is_several(word: &str) -> bool
     has_blank(first_bytes(bytes, count_plain(bytes)))
 }
 
+/// Whether the word is no name of a program: it is of several words, or sets a variable as a shell would.
+fn is_no_program(word: &str) -> bool
+    ensures { result ≡ model.is_no_program word.now }
+{
+    is_several(word) || has_equals(word)
+}
+
 /// What is noted of the name of a step's program.
 #[tactic(auto, using(crate::proofs::ProgramLemmas::blank_first))]
 pub(crate) fn blank_note<'a>(at: StepPath, step: &'a Step) -> Option<Note<'a>>
     ensures { option_map seen result ≡ model.blank_note at step.now }
 {
     let words = &step.words;
-    if !words.is_empty() && is_several(words.at(0)) {
+    if !words.is_empty() && is_no_program(words.at(0)) {
         Some(Note::BlankProgram {
             at,
             word: words.at(0),
