@@ -235,6 +235,11 @@ the_fault may fleet forks play statuses vars done last logs are = by done are.fi
     by (run ∷ rest) first [] (log ∷ logs) same broken = absurd broken.1
     by (run ∷ rest) first (more ∷ later) (log ∷ logs) same broken = absurd (cc)
 
+pub the_last : (front : List Run) (run one : Run) → front ++ run ∷ [] ≡ one ∷ [] → one ≡ run
+the_last [] run one same = cc
+the_last (other ∷ []) run one same = absurd (cc)
+the_last (other ∷ more ∷ front) run one same = absurd (cc)
+
 pub nothing_done : (may : Work → Ending → Type 0) (fleet : FleetView) (forks : ℕ) (play : Play) (statuses : List Status) (vars : List Vars) (done : List Run) (last : RunFault) (logs : List (List Event))
     → AreBroken may fleet forks (play ∷ []) statuses vars done last logs → done ≡ []
 nothing_done may fleet forks play statuses vars done last logs are = by done are.first are.later logs are.plays_are are.broken
