@@ -11,6 +11,7 @@ use domains::Fleet;
 use fleet_states::Status;
 use group_tree::HostId;
 use play_course::End;
+use roll_core::Moment;
 use roll_run::Keep;
 use std::alloc::Global;
 

@@ -128,13 +128,7 @@ where
     if !keeper.opens(board.fleet(), board.moment(), batch) {
         return Err((Break::Unkept, board));
     }
-    match work_off(
-        coordinator.rt,
-        coordinator.alloc,
-        front,
-        board,
-        batch,
-    ) {
+    match work_off(coordinator.rt, coordinator.alloc, front, board, batch) {
         Ok(board) => Ok(board),
         Err((why, board)) => Err((Break::Fault(why), board)),
     }

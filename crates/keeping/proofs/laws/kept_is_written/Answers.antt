@@ -7,4 +7,4 @@ use Rattle.keeping.proofs.laws.kept_is_written.Goals as goal
 pub returns : goal.returns
 returns g c =
     kept_is_written g.S.Journal.Write.contents (λ keeper file. g.S.Shelf.is_new file keeper.name.now) (λ keeper. keeper.inventory.now) (λ keeper. keeper.playbook.now)
-    (λ keeper. keeper.file) (λ keeper. keeper.is_whole) (λ entry keeper. IsHeld (λ file. (is_some file ≡ true) × IfSome file g.S.Journal.is_on_disk) entry keeper.file keeper.is_whole) c.args.before.now c.args.after.now
+    (λ keeper. keeper.file) (λ keeper. keeper.is_whole) (λ entry keeper. IsHeld (λ file. (is_some file ≡ true) × IfSome file g.S.Journal.Disk.is_on_disk) entry keeper.file keeper.is_whole) c.args.before.now c.args.after.now
