@@ -27,9 +27,12 @@ fits field other = false
 abbrev pub ends_host : Step → Bool
 ends_host step = not (step.ignore_errors || is_some step.failed_when)
 
+abbrev pub is_trusted : Name → Step → Bool
+is_trusted name task = not (registers name task) || ends_host task
+
 -- such tasks alone register the name, so that its result is none of a failure
 abbrev pub is_sound : List Step → Name → Bool
-is_sound tasks name = is_registered_by tasks name && list_all (λ (task : Step). not (registers name task) || ends_host task) tasks
+is_sound tasks name = is_registered_by tasks name && list_all (is_trusted name) tasks
 
 abbrev pub if_sound : List Step → Bool → Name → Option Name
 if_sound tasks asked name = if asked && is_sound tasks name then Some name else None

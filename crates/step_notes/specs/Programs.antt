@@ -95,9 +95,17 @@ changes_machine word =
     is_among (base_name word)
     (codes "systemctl" ∷ codes "service" ∷ codes "apt" ∷ codes "apt-get" ∷ codes "yum" ∷ codes "dnf" ∷ codes "docker" ∷ codes "reboot" ∷ codes "shutdown" ∷ [])
 
--- programs that talk to another machine, only wait, or only tell: the same command may serve all hosts
+-- programs that talk to another machine, by their names without a path
+abbrev pub asks_elsewhere : Name → Bool
+asks_elsewhere base =
+    is_among base
+    (codes "curl" ∷ codes "wget" ∷ codes "kubectl" ∷ codes "helm" ∷ codes "consul" ∷ codes "nomad" ∷ codes "vault" ∷ codes "aws"
+    ∷ codes "gcloud" ∷ codes "az" ∷ codes "psql" ∷ codes "mysql" ∷ codes "redis-cli" ∷ [])
+
+-- programs that only wait, or only tell
+abbrev pub changes_nothing : Name → Bool
+changes_nothing base = is_among base (codes "sleep" ∷ codes "true" ∷ codes "false" ∷ codes "test" ∷ codes "echo" ∷ codes "printf" ∷ codes "date" ∷ [])
+
+-- the same command may serve all hosts
 abbrev pub serves_all : Name → Bool
-serves_all word =
-    is_among (base_name word)
-    (codes "curl" ∷ codes "wget" ∷ codes "kubectl" ∷ codes "helm" ∷ codes "consul" ∷ codes "nomad" ∷ codes "vault" ∷ codes "aws" ∷ codes "gcloud" ∷ codes "az" ∷ codes "psql" ∷ codes "mysql" ∷ codes "redis-cli"
-    ∷ codes "sleep" ∷ codes "true" ∷ codes "false" ∷ codes "test" ∷ codes "echo" ∷ codes "printf" ∷ codes "date" ∷ [])
+serves_all word = asks_elsewhere (base_name word) || changes_nothing (base_name word)

@@ -118,12 +118,18 @@ fn is_false(part: Part) -> bool
     )
 }
 
+fn has_false(parts: &[Part]) -> bool
+    ensures { result ≡ list_any model.is_false parts.now }
+{
+    parts.iter().any(|part| is_false(*part))
+}
+
 /// Whether the condition has a part that is `false`, though all have to hold.
 pub(crate) fn never_holds(condition: &Option<Cond>) -> bool
     ensures { result ≡ model.never_holds condition.now }
 {
     match condition {
-        Some(condition) => condition.parts.iter().any(|part| is_false(*part)),
+        Some(condition) => has_false(condition.parts.as_slice()),
         None => false,
     }
 }

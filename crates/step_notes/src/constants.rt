@@ -1,5 +1,6 @@
 //! Tests of a field that come out the same whatever happens.
 ghost use Rattle.std.specs.Prelude.{◌≡◌, option_map};
+ghost use Rattle.std.specs.List.{list_all};
 ghost use Rattle.cond.specs.Trees.{written_operand};
 ghost use Rattle.step_notes.specs.Constants as model;
 ghost use Rattle.step_notes.specs.Inside.{said};
@@ -30,14 +31,23 @@ fn ends_host(step: &Step) -> bool
     !(step.ignore_errors || step.failed_when.is_some())
 }
 
+fn is_trusted(name: &str, task: &Step) -> bool
+    ensures { result ≡ model.is_trusted name.now task.now }
+{
+    !registers(name, task) || ends_host(task)
+}
+
+fn are_trusted(tasks: &[Step], name: &str) -> bool
+    ensures { result ≡ list_all (model.is_trusted name.now) tasks.now }
+{
+    tasks.iter().all(|task| is_trusted(name, task))
+}
+
 /// Whether only tasks register the name that end a host on which they fail.
 fn is_sound(tasks: &[Step], name: &str) -> bool
     ensures { result ≡ model.is_sound tasks.now name.now }
 {
-    is_registered_by(name, tasks)
-        && tasks
-            .iter()
-            .all(|task| !registers(name, task) || ends_host(task))
+    is_registered_by(name, tasks) && are_trusted(tasks, name)
 }
 
 fn if_sound<'c>(tasks: &[Step], asked: bool, name: &'c str) -> Option<&'c str>

@@ -186,33 +186,42 @@ pub(crate) fn changes_machine(word: &str) -> bool
         || base == "shutdown".as_bytes()
 }
 
-const SERVE_ALL: &[&str] = &[
-    "curl",
-    "wget",
-    "kubectl",
-    "helm",
-    "consul",
-    "nomad",
-    "vault",
-    "aws",
-    "gcloud",
-    "az",
-    "psql",
-    "mysql",
-    "redis-cli",
-    "sleep",
-    "true",
-    "false",
-    "test",
-    "echo",
-    "printf",
-    "date",
-];
+/// Whether the program of this name, without a path, talks to another machine.
+fn asks_elsewhere(base: &[u8]) -> bool
+    ensures { result ≡ model.asks_elsewhere base.now }
+{
+    base == "curl".as_bytes()
+        || base == "wget".as_bytes()
+        || base == "kubectl".as_bytes()
+        || base == "helm".as_bytes()
+        || base == "consul".as_bytes()
+        || base == "nomad".as_bytes()
+        || base == "vault".as_bytes()
+        || base == "aws".as_bytes()
+        || base == "gcloud".as_bytes()
+        || base == "az".as_bytes()
+        || base == "psql".as_bytes()
+        || base == "mysql".as_bytes()
+        || base == "redis-cli".as_bytes()
+}
 
-/// Whether the program talks to another machine, only waits, or only tells.
+/// Whether it only waits, or only tells.
+fn changes_nothing(base: &[u8]) -> bool
+    ensures { result ≡ model.changes_nothing base.now }
+{
+    base == "sleep".as_bytes()
+        || base == "true".as_bytes()
+        || base == "false".as_bytes()
+        || base == "test".as_bytes()
+        || base == "echo".as_bytes()
+        || base == "printf".as_bytes()
+        || base == "date".as_bytes()
+}
+
+/// Whether one call of the program may serve all hosts.
 pub(crate) fn serves_all(word: &str) -> bool
     ensures { result ≡ model.serves_all word.now }
 {
     let base = base_name(word);
-    SERVE_ALL.iter().any(|name| base == name.as_bytes())
+    asks_elsewhere(base) || changes_nothing(base)
 }

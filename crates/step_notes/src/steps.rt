@@ -1,5 +1,6 @@
 //! The notes on a step.
 ghost use Rattle.std.specs.Prelude.{◌≡◌, ◌++◌, OnOk, false, flat_map, option_map};
+ghost use Rattle.fleet_numbers.specs.NumberLists.{has_number};
 ghost use Rattle.needed_results.specs.Needs.{tasks_before};
 ghost use Rattle.step_notes.specs.Hosts as hosts;
 ghost use Rattle.step_notes.specs.Hosts.{misses, misses_by, name_note};
@@ -25,10 +26,16 @@ use note_lines::{Note, Notes, StepPath};
 use play_model::{Play, Step};
 use std::alloc::{AllocError, Global};
 
+fn lists(task: &Step, handler: usize) -> bool
+    ensures { result ≡ has_number handler task.now.notify.items }
+{
+    task.notify.iter().any(|other| handler == *other)
+}
+
 fn notifies(task: &Step, handler: usize) -> bool
     ensures { result ≡ model.notifies handler task.now }
 {
-    task.notify.iter().any(|other| handler == *other) && !never_holds(&task.changed_when)
+    lists(task, handler) && !never_holds(&task.changed_when)
 }
 
 /// Whether a task of the play that may change something notifies the handler of this number.

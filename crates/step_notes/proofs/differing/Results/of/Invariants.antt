@@ -1,4 +1,4 @@
-use Rattle.std.proofs.Common.{◌≡◌, ◌||◌, drop}
+use Rattle.std.proofs.Common.{◌≡◌, ◌||◌, false, drop}
 use Rattle.group_tree.specs.Names.{Name}
 use Rattle.needed_results.specs.Registers.{is_registered_by}
 use Rattle.step_notes.specs.Differing.{varied_after}
