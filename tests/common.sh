@@ -68,6 +68,16 @@ run() {
     status=$?
 }
 
+# locked FILE WORD ..: runs the program while another holds the lock of a file.
+locked() {
+    python3 -c 'import fcntl, subprocess, sys
+program, name, *words = sys.argv[1:]
+with open(name) as file:
+    fcntl.flock(file, fcntl.LOCK_EX)
+    sys.exit(subprocess.call([program, *words]))' "$rollout" "$@" <"$input" >"$work/out" 2>"$work/errors"
+    status=$?
+}
+
 # check WHAT STATUS OUT ERRORS: compares the last run's status and both outputs, whole, with what is expected.
 check() {
     printf '%s' "$3" >"$work/out.expected"

@@ -90,11 +90,7 @@ run run -v "$work/racks.json" "$work/play.json" --journal told
 
 # held WORD..: runs the program while another holds the inventory's lock
 held() {
-    python3 -c 'import fcntl, subprocess, sys
-with open(sys.argv[1]) as file:
-    fcntl.flock(file, fcntl.LOCK_EX)
-    sys.exit(subprocess.call(sys.argv[2:]))' "$work/racks.json" "$rollout" "$@" >"$work/out" 2>"$work/errors"
-    status=$?
+    locked "$work/racks.json" "$@"
 }
 rm -f "$work/began"
 held run "$work/racks.json" "$work/play.json" --journal locked
@@ -110,6 +106,8 @@ check 'before the files are read' 1 '' "rollout: 918 Locked$newline"
 [ ! -e locked ] && [ ! -e "$work/began" ] && pass || fail 'a run that is locked out made its journal, or started something'
 held run "$work/racks.json" "$work/play.json" --no-lock
 [ "$status" -eq 0 ] && pass || fail 'a run that is to lock nothing asks for a lock'
+held run "$work/racks.json" "$work/play.json" --no-lock --lock-file "$work/racks.json"
+[ "$status" -eq 0 ] && pass || fail 'a run that is to lock nothing asks for the lock of a lock file'
 held run "$work/racks.json" "$work/play.json" --lock-file another
 [ "$status" -eq 0 ] && [ -e another ] && [ ! -s another ] && pass || fail 'another file is locked in place of the inventory, and made'
 for words in "limits $work/racks.json" "rehearse $work/racks.json $work/play.json" "state $work/racks.json second"; do
@@ -122,19 +120,62 @@ held plan "$work/racks.json" "$work/play.json"
 held run -v "$work/racks.json" "$work/play.json"
 sed -E '2s/^  (process [0-9]+|another run) holds/  N holds/' "$work/errors" >"$work/told" && mv "$work/told" "$work/errors"
 check 'who holds the lock' 1 '' "rollout: 918 Locked$newline  N holds the lock of $work/racks.json: wait for its end$newline"
+# Of two files that are held by two processes each is told with its own.
+cp "$work/racks.json" racks-too
+python3 - "$built" "$work/play.json" "$work/racks.json" racks-too <<'PYTHON' && pass || fail 'who holds the lock of each of two files'
+import os, subprocess, sys
+program, play, *names = sys.argv[1:]
+# Each ends with this program, which has its standard input.
+hold = "import fcntl, sys\nwith open(sys.argv[1]) as file:\n    fcntl.flock(file, fcntl.LOCK_EX)\n    print(flush=True)\n    sys.stdin.read()"
+holders = [subprocess.Popen([sys.executable, "-c", hold, name], stdin=subprocess.PIPE, stdout=subprocess.PIPE) for name in names]
+for holder in holders:
+    holder.stdout.readline()
+listed = open("/proc/locks").read() if os.path.exists("/proc/locks") else ""
+wrong = False
+for name, holder in zip(names, holders):
+    found = os.stat(name)
+    line = f" {holder.pid} {os.major(found.st_dev):02x}:{os.minor(found.st_dev):02x}:{found.st_ino} "
+    who = f"process {holder.pid}" if line in listed else "another run"
+    said = subprocess.run([program, "run", "-v", name, play], stdin=subprocess.DEVNULL, capture_output=True, text=True).stderr
+    if said != f"rollout: 918 Locked\n  {who} holds the lock of {name}: wait for its end\n":
+        print(f"held by {holder.pid}: {said}")
+        wrong = True
+sys.exit(wrong)
+PYTHON
 # The inventory is read from the file that is locked: where another takes its name in the moment before, that one is locked and read.
 cat >"$work/replace.c" <<'C'
 #define _GNU_SOURCE
 #include <dlfcn.h>
+#include <errno.h>
 #include <stdio.h>
 #include <stdlib.h>
+#include <string.h>
 #include <sys/file.h>
+#include <unistd.h>
+
+static int locked = -1;
+
+static void comes(const char *what) {
+    if (!strcmp(getenv("REPLACE_AT"), what)) rename(getenv("REPLACE_BY"), getenv("REPLACED"));
+}
 
 int flock(int fd, int how) {
-    static int (*real)(int, int);
-    if (!real) real = (int (*)(int, int))dlsym(RTLD_NEXT, "flock");
-    if (how & LOCK_EX) rename(getenv("REPLACE_BY"), getenv("REPLACED"));
+    int (*real)(int, int) = dlsym(RTLD_NEXT, "flock");
+    if (getenv("NO_LOCKS")) {
+        errno = ENOLCK;
+        return -1;
+    }
+    if (how & LOCK_EX) {
+        locked = fd;
+        comes("lock");
+    }
     return real(fd, how);
+}
+
+ssize_t read(int fd, void *bytes, size_t count) {
+    ssize_t (*real)(int, void *, size_t) = dlsym(RTLD_NEXT, "read");
+    if (fd == locked) comes("read");
+    return real(fd, bytes, count);
 }
 C
 ${CC:-cc} -shared -fPIC -O1 -o "$work/replace.so" "$work/replace.c" -ldl || fail 'no C compiler made replace.so'
@@ -142,9 +183,14 @@ printf '{"all":{"hosts":{"old":null}}}' >replaced
 printf '{"all":{"hosts":{"new":null}}}' >by
 printf '[{"hosts":"all","tasks":[{"command":{"argv":["sh","-c","%s run --no-lock -v replaced one; %s run -v replaced one"]}}]}]' "$built" "$built" >inside
 printf '[{"hosts":"all","tasks":[{"command":"true"}]}]' >one
-REPLACE_BY=by REPLACED=replaced LD_PRELOAD="$work/replace.so" "$built" run -v replaced inside >"$work/out" 2>"$work/errors"
+REPLACE_AT=lock REPLACE_BY=by REPLACED=replaced LD_PRELOAD="$work/replace.so" "$built" run -v replaced inside >"$work/out" 2>"$work/errors"
 [ $? -eq 4 ] && grep -q '^new ok=0 changed=0 failed=1 ' "$work/out" && grep -q '^  new stdout: new ok=1 ' "$work/errors" && grep -q '^  new stderr: rollout: 918 Locked$' "$work/errors" && pass ||
     fail "an inventory that is replaced before it is locked: $(cat "$work/out" "$work/errors")"
+# Where another takes its name behind that moment, the locked one is read all the same.
+printf '{"all":{"hosts":{"old":null}}}' >replaced
+printf '{"all":{"hosts":{"new":null}}}' >by
+REPLACE_AT=read REPLACE_BY=by REPLACED=replaced LD_PRELOAD="$work/replace.so" "$built" run replaced one >"$work/out" 2>"$work/errors"
+[ $? -eq 0 ] && [ ! -e by ] && grep -q '^old ok=1 ' "$work/out" && ! grep -q '^new ' "$work/out" && pass || fail "an inventory that is replaced once it is locked: $(cat "$work/out" "$work/errors")"
 # One that is replaced while the run goes on is told of in the end.
 printf '[{"hosts":"all","tasks":[{"command":{"argv":["sh","-c","cp replaced by && mv by replaced"]}}]}]' >inside
 "$built" run replaced inside >"$work/out" 2>"$work/errors"
@@ -185,6 +231,9 @@ for words in '--journal piped' --quiet '-v --journal told-piped' -v '-v --quiet 
     [ "$status" -eq 0 ] && [ "$(grep '^note: ' "$work/errors")" = "$said" ] && pass || fail "an inventory from a pipe with $words: $(cat "$work/errors")"
 done
 [ -e piped ] && [ -e told-piped ] && pass || fail 'an inventory from a pipe, without a journal'
+# A file has none where its file system has no locks.
+NO_LOCKS=1 LD_PRELOAD="$work/replace.so" "$built" run -v "$work/racks.json" "$work/play.json" >"$work/out" 2>"$work/errors"
+[ $? -eq 0 ] && [ "$(grep '^note: ' "$work/errors")" = "$unlocked" ] && pass || fail "a file system without locks: $(cat "$work/errors")"
 # At a terminal it is said unasked, and not with --quiet.
 seen() {
     python3 -c 'import os, pty, subprocess, sys

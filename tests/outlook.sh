@@ -351,11 +351,8 @@ written one HEAD 'play: a b c d' 'open: a' 'closed: updated:a' 'open: b'
 ln -s journal link
 for words in 'limits inventory' 'plan inventory one' 'plan --course inventory one' 'rehearse inventory one'; do
     for file in inventory journal; do
-        python3 -c 'import fcntl, subprocess, sys
-with open(sys.argv[1]) as file:
-    fcntl.flock(file, fcntl.LOCK_EX)
-    sys.exit(subprocess.call(sys.argv[2:]))' "$file" "$rollout" $words --from link --up b </dev/null >out 2>errors
-        [ "$?" -eq 0 ] && [ ! -s errors ] && pass || fail "$words asks for a lock of the $file: $(cat errors)"
+        locked "$file" $words --from link --up b
+        [ "$status" -eq 0 ] && [ ! -s errors ] && pass || fail "$words asks for a lock of the $file: $(cat errors)"
     done
 done
 # full WORD ..: nothing can be written.

@@ -376,6 +376,14 @@ written owed HEAD 'play: a b d' 'open: a d' 'closed: failed:a halted:d' 'end too
 went 'and who was halted' 0 "$(both 1 1 0 1)" 'a d ' owed --up a,d
 written owed HEAD 'play: a b d' 'open: a' 'closed: failed:a' 'end all-failed' 'resumed: a' 'again: a b d'
 went 'also where that attempt was stopped before the host had its turn' 0 "$(both 1 1 0 0)" 'a ' owed
+written owed HEAD 'play: a b d' 'open: a' 'closed: failed:a' 'end all-failed' 'resumed: a' 'again: a b d'
+went 'and where it is named again' 0 "$(both 1 1 0 0)" 'a ' owed --up a
+written owed HEAD 'play: a b d' 'open: a' 'closed: failed:a' 'end all-failed' 'resumed: a' 'again: a b d' 'open: a'
+went 'who is at work at the second stop runs them once' 0 "$(both 1 1 0 0)" 'a ' owed --up a
+written owed HEAD 'play: a b d' 'open: a' 'closed: failed:a' 'end all-failed' 'resumed: a' 'again: a b d' 'open: a' 'closed: failed:a' 'end all-failed' 'resumed:' 'again: b d' 'open: b'
+went 'who fails twice and is mended at a later stop runs them once' 0 "$(both 1 1 1 0)" 'a b ' owed --up a,b
+written owed HEAD 'play: a b d' 'open: a' 'closed: failed:a' 'end all-failed' 'resumed: a' 'again: a b d' 'open: a' 'closed: updated:a' 'open: b' 'closed: updated:b' 'open: d' 'closed: updated:d' 'end finished' 'play: a b d'
+went 'who owes in one play owes nothing in the next' 0 "$(owed_recap 2 0 0 0)" '' owed
 written owed HEAD 'play: a b d' 'open: a' 'closed: failed:a' 'end all-failed' 'resumed: a' 'again: a b d' 'open: a' 'closed: updated:a'
 run run inventory owed --resume journal
 [ "$status" -eq 0 ] && [ ! -e ran ] && pass || fail "who is updated owes nothing any more: $(cat ran out)"
@@ -410,11 +418,7 @@ check 'a pipe' 6 '' "rollout: 911 JournalWrite$newline"
 
 # held FILE: goes on while somebody else holds the lock of a file
 held() {
-    python3 -c 'import fcntl, subprocess, sys
-with open(sys.argv[1]) as file:
-    fcntl.flock(file, fcntl.LOCK_EX)
-    sys.exit(subprocess.call(sys.argv[2:]))' "$1" "$rollout" run inventory one --resume journal >"$work/out" 2>"$work/errors"
-    status=$?
+    locked "$1" run inventory one --resume journal
 }
 for file in inventory journal; do
     held $file
@@ -424,6 +428,25 @@ done
 written one HEAD
 held one
 [ "$status" -eq 0 ] && pass || fail 'a playbook has no lock'
+
+# A run that waits for its playbook holds the lock of the journal by then.
+written one HEAD 'play: a b'
+mkfifo playbook
+"$rollout" run inventory playbook --no-lock --resume journal >first 2>&1 &
+first=$!
+{
+    run run inventory one --no-lock --resume journal
+    cat one
+} >playbook
+check 'a run of the same journal waits for its playbook' 1 '' "rollout: 918 Locked$newline"
+wait "$first" && [ "$(sort ran | tr '\n' ' ')" = 'a b c d ' ] && pass || fail "a run that waited for its playbook: $(cat first)"
+
+# The inventory is replaced meanwhile.
+printf '[{"hosts":"a","tasks":[{"command":{"argv":["sh","-c","cp inventory new && mv new inventory"]}}]}]' >replacing
+written replacing HEAD 'play: a'
+"$built" run inventory replacing --resume journal >out 2>errors
+status=$?
+check 'the inventory is replaced while a run goes on' 0 "$(cat out)$newline" "note: the locked file was replaced while this run went on: another run of it was not kept out from then on$newline"
 
 # While a run goes on, by a program of its own: a second one with the same journal, also one with a copy of the inventory, and a new one with a journal of its own.
 cp inventory copied

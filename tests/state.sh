@@ -1,6 +1,6 @@
 #!/bin/sh
 # What `state` tells of a run by its journal: worked journals in full, every front of one and each of its bytes changed, and drawn ones, beside a reader of journals in Python.
-# It needs crates/rollout/out/rollout and Python.
+# It needs a C compiler, Python and crates/rollout/out/rollout.
 . "$(dirname "$0")/common.sh"
 
 reader=$top/tests/slow/journal.py
@@ -32,6 +32,18 @@ bad() {
     check "$what" 1 '' "rollout: 912 BadJournal line=$line$newline"
 }
 
+# seen WORD ..: what standard error has if it is a terminal.
+seen() {
+    python3 -c 'import os, pty, subprocess, sys
+ours, theirs = pty.openpty()
+subprocess.run(sys.argv[1:], stdin=subprocess.DEVNULL, stdout=subprocess.DEVNULL, stderr=theirs)
+os.write(theirs, b"over\n")
+shown = b""
+while not shown.endswith(b"over\r\n"):
+    shown += os.read(ours, 4096)
+sys.stdout.write(shown.decode().replace("\r\n", "\n")[:-5])' "$rollout" "$@"
+}
+
 # Worked by hand: a length, and the sum of each byte times its place.
 python3 -c 'import sys
 body = b"end finished"
@@ -54,6 +66,7 @@ d state=running
 e state=waiting
 end running
 ' ''
+[ -z "$(seen state "$work/racks.json" "$work/going")" ] && pass || fail 'something is next while a run goes on'
 cp "$work/going" "$work/copied"
 run state "$work/racks.json" "$work/copied"
 check 'a copy of its journal has no lock' 6 'a state=running
@@ -63,6 +76,40 @@ d state=running
 e state=waiting
 end broken-off
 ' ''
+# It ends once its journal was read to the end, and is over before anything else is done.
+cat >"$work/ends.c" <<'C'
+#define _GNU_SOURCE
+#include <dlfcn.h>
+#include <fcntl.h>
+#include <stdlib.h>
+#include <sys/file.h>
+#include <sys/stat.h>
+#include <unistd.h>
+
+ssize_t read(int fd, void *bytes, size_t count) {
+    ssize_t (*real)(int, void *, size_t) = dlsym(RTLD_NEXT, "read");
+    ssize_t got = real(fd, bytes, count);
+    struct stat journal, found;
+    if (got == 0 && !stat(getenv("JOURNAL"), &journal) && !fstat(fd, &found) && journal.st_ino == found.st_ino) {
+        close(creat(getenv("GO"), 0600));
+        int other = open(getenv("JOURNAL"), O_RDONLY);
+        flock(other, LOCK_SH);
+        close(other);
+    }
+    return got;
+}
+C
+${CC:-cc} -shared -fPIC -O1 -o "$work/ends.so" "$work/ends.c" -ldl || fail 'no C compiler made ends.so'
+GO="$work/go" JOURNAL="$work/going" LD_PRELOAD="$work/ends.so" "$rollout" state "$work/racks.json" "$work/going" >"$work/out" 2>"$work/errors"
+status=$?
+check 'a run that ends once its journal is read' 7 'a state=running
+b state=waiting
+c state=waiting
+d state=running
+e state=waiting
+end running
+' ''
+[ -e "$work/go" ] && pass || fail 'the journal is not read to its end by the C library'
 : >"$work/go"
 wait "$runner"
 run state "$work/racks.json" "$work/going"
@@ -89,6 +136,12 @@ told 'killed between batches' 6 'a state=updated
 b state=waiting
 d state=failed
 end broken-off' HEAD 'play: a b d' 'open: a d' 'closed: updated:a failed:d'
+locked "$work/journal" state "$work/racks.json" "$work/journal"
+check 'between batches, and it goes on' 7 'a state=updated
+b state=waiting
+d state=failed
+end running
+' ''
 told 'ended well' 0 'a state=updated
 d state=updated
 end finished' HEAD 'play: a d' 'open: a d' 'closed: updated:a updated:d' 'end finished'
@@ -229,6 +282,8 @@ run state "$work/other.json" "$work/journal" --changed-inputs --changed-inputs
 check 'the same, said behind the files and twice' 6 "$stands$newline" ''
 run state "$work/racks.json" "$work/journal" --changed-inputs
 check 'with the inventory that it began with nothing changes' 6 "$stands$newline" ''
+locked "$work/journal" state --changed-inputs "$work/other.json" "$work/journal"
+check 'the same by a line feed, of a run that goes on' 7 "${stands%broken-off}running$newline" ''
 printf '{"r9":{"vars":{"max_down":1},"hosts":{"a":null,"b":null,"c":null,"d":null,"new":{"down":true}}}}' >"$work/other.json"
 meant 'with other groups and limits, and a host more that is down' 6 'a state=updated
 b state=running
@@ -269,20 +324,14 @@ shown() {
     lines=$2
     shift 2
     written "$@"
-    python3 -c 'import os, pty, subprocess, sys
-ours, theirs = pty.openpty()
-subprocess.run(sys.argv[1:], stdin=subprocess.DEVNULL, stdout=subprocess.DEVNULL, stderr=theirs)
-os.write(theirs, b"over\n")
-shown = b""
-while not shown.endswith(b"over\r\n"):
-    shown += os.read(ours, 4096)
-sys.stdout.write(shown.decode().replace("\r\n", "\n")[:-5])' "$rollout" state "$work/racks.json" "$work/journal" >"$work/errors"
+    seen state "$work/racks.json" "$work/journal" >"$work/errors"
     [ "$(cat "$work/errors")" = "$lines" ] && pass || fail "$what: a terminal shows $(cat "$work/errors")"
 }
 going_on="next: rollout run --resume $work/journal"
 shown 'hosts are running, and one has failed' "note: programs may still run on the hosts that are running
 $going_on --up b,c $work/racks.json PLAYBOOK" HEAD 'play: a b c' 'open: a c' 'closed: updated:a failed:c' 'open: b'
 shown 'hosts wait' "$going_on $work/racks.json PLAYBOOK" HEAD 'play: a b' 'open: a' 'closed: updated:a'
+shown 'a play is to come' "$going_on $work/racks.json PLAYBOOK" HEAD2 'play: a' 'open: a' 'closed: updated:a' 'end finished'
 shown 'a host has failed' "$going_on --up a $work/racks.json PLAYBOOK" HEAD 'play: a' 'open: a' 'closed: failed:a' 'end all-failed'
 shown 'nothing is left to do' '' HEAD 'play: a' 'open: a' 'closed: updated:a' 'end finished'
 
