@@ -28,11 +28,13 @@ words_differ named several words = list_any (word_differs named several) words
 abbrev pub name_differs : (Name → Bool) → (Name → Bool) → (Name → Bool) → Name → Bool
 name_differs own varied varies name = if own name then varied name else varies name
 
--- the results that may differ after these steps: those that a step registers whose words do, by the results of steps before it
+-- the results that may differ after a step, with those before it: also the one that it registers, if its words do
+abbrev pub varied_with : Bool → (Name → Bool) → (Name → Bool) → (Name → Bool) → Step → Name → Bool
+varied_with several own varies varied step name = varied name || (words_differ (name_differs own varied varies) several step.words && registers name step)
+
 abbrev pub varied_after : Bool → (Name → Bool) → (Name → Bool) → (Name → Bool) → List Step → Name → Bool
 varied_after several own varies varied [] = varied
-varied_after several own varies varied (step ∷ steps) =
-    varied_after several own varies (λ name. varied name || (words_differ (name_differs own varied varies) several step.words && registers name step)) steps
+varied_after several own varies varied (step ∷ steps) = varied_after several own varies (varied_with several own varies varied step) steps
 
 -- the names that may differ in a play of these steps
 abbrev pub named_by : Bool → (Name → Bool) → List Step → Name → Bool

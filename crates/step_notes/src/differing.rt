@@ -1,12 +1,13 @@
 //! What differs between the hosts that wait for a play.
-ghost use Rattle.std.specs.Prelude.{◌≡◌, IfOk};
+ghost use Rattle.std.specs.Prelude.{◌≡◌, IfOk, OnOk};
+ghost use Rattle.needed_results.specs.Registers.{is_registered_by};
 ghost use Rattle.group_tree.specs.Names.{Name};
 ghost use Rattle.text_parts.specs.Seen.{said};
 ghost use Rattle.step_notes.specs.Differing as model;
-ghost use Rattle.step_notes.specs.Differing.{named_by};
+ghost use Rattle.step_notes.specs.Differing.{named_by, varied_after, varied_with};
 ghost use Rattle.step_notes.specs.Hosts as hosts;
 ghost use Rattle.step_notes.specs.Hosts.{are_several};
-ghost use Rattle.step_notes.specs.Inside.{crowd_of, differs_in, varies_in};
+ghost use Rattle.step_notes.specs.Inside.{crowd_of, differs_in, has_name, varies_in};
 
 use crate::crowd::Crowd;
 use crate::lacks::Lacks;
@@ -23,7 +24,42 @@ pub struct Results<'a> {
     pub(crate) varied: Registered<'a>,
 }
 
+/// Returns the names under which the steps register results.
+fn list_own<'a>(alloc: Global, steps: &'a [Step]) -> Result<Registered<'a>, AllocError>
+    ensures { IfOk result (λ own. (name : Name) → has_name own name ≡ is_registered_by steps.now name) }
+{
+    let mut own = Registered::new(alloc);
+    for step in steps {
+        own.add(step)?;
+    }
+    Ok(own)
+}
+
 impl<'a> Results<'a> {
+    /// Adds the result of the step, if it registers one and its words differ.
+    fn add(&mut self, lacks: &Lacks<'_, '_>, step: &'a Step) -> Result<(), AllocError>
+        ensures own { self.new.own ≡ self.old.own }
+        ensures varied { OnOk result ((name : Name) → has_name self.new.varied name
+            ≡ varied_with (are_several lacks.now.waiting.now) (has_name self.old.own) (varies_in lacks.now) (has_name self.old.varied) step.now name) }
+    {
+        if words_differ(lacks, self, &step.words) {
+            self.varied.add(step)?;
+        }
+        Ok(())
+    }
+
+    /// Adds those of the steps, of each after those before it.
+    fn add_all(&mut self, lacks: &Lacks<'_, '_>, steps: &'a [Step]) -> Result<(), AllocError>
+        ensures own { self.new.own ≡ self.old.own }
+        ensures varied { OnOk result ((name : Name) → has_name self.new.varied name
+            ≡ varied_after (are_several lacks.now.waiting.now) (has_name self.old.own) (varies_in lacks.now) (has_name self.old.varied) steps.now name) }
+    {
+        for step in steps {
+            self.add(lacks, step)?;
+        }
+        Ok(())
+    }
+
     /// Looks at each step, after those before it. Fails only if an allocation fails.
     pub fn of(
         alloc: Global,
@@ -33,17 +69,10 @@ impl<'a> Results<'a> {
         ensures { IfOk result (λ results. (name : Name) → differs_in lacks.now results name ≡ named_by (are_several lacks.now.waiting.now) (varies_in lacks.now) steps.now name) }
     {
         let mut results = Results {
-            own: Registered::new(alloc),
+            own: list_own(alloc, steps)?,
             varied: Registered::new(alloc),
         };
-        for step in steps {
-            results.own.add(step)?;
-        }
-        for step in steps {
-            if words_differ(lacks, &results, &step.words) {
-                results.varied.add(step)?;
-            }
-        }
+        results.add_all(lacks, steps)?;
         Ok(results)
     }
 }
