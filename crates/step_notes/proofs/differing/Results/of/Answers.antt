@@ -21,4 +21,4 @@ returns c =
     ∙ ap (λ (o : Name → Bool). varied_after several o varies (has_name c.new.result) steps) listed
     ∙ ap (λ (v : Name → Bool). varied_after several (is_registered_by steps) varies v steps) none in
     λ name. ap (λ (o : Name → Bool). name_differs o (has_name c.add_all.new.self.varied) varies name) own
-        ∙ ap (λ (v : Name → Bool). name_differs (is_registered_by steps) v varies name) varied
+    ∙ ap (λ (v : Name → Bool). name_differs (is_registered_by steps) v varies name) varied
