@@ -1,6 +1,6 @@
 -- What is known of the play with which a run goes on, and why none goes on.
-use Rattle.std.proofs.Common.{◌≡◌, ℕ, Bool, None, Result, Ok, Err, List, ◌∷◌, drop, subst, inl, inr}
-use Rattle.std.specs.Prelude.{IfErr}
+use Rattle.std.proofs.Common.{◌≡◌, ℕ, Bool, None, Result, Ok, Err, List, ◌∷◌, drop, subst, sym, inl, inr}
+use Rattle.std.specs.Prelude.{IfErr, IfOk}
 use Rattle.std.specs.List.{find}
 use Rattle.domains.specs.FleetViews.{FleetView}
 use Rattle.domains.specs.Patterns.{names_nothing}
@@ -13,7 +13,8 @@ use Rattle.roll_run.proofs.Following.{known_first}
 use Rattle.running.proofs.PlayLemmas.{known_from}
 use Rattle.running.specs.Inputs.{AreHostsIn}
 use Rattle.resuming.specs.Journals.{IsOwnJournal, RefusesJournal}
-use Rattle.resuming.specs.Resumptions.{IsMended, RefusesBehind, RefusesNamed, RefusesToBegin, RefusesToGoOn, RefusesToMend, RefusesToResume, begun_state}
+use Rattle.resuming.specs.Resumptions.{IsGoneOn, IsMended, IsMendedBeginning, IsResumption, RefusesBehind, RefusesNamed, RefusesToBegin, RefusesToGoOn, RefusesToMend, RefusesToResume, begun_state}
+use Rattle.resuming.specs.declared.inputs.Resumption.{Resumption}
 use Rattle.resuming.specs.declared.fault.ResumeFault.{ResumeFault}
 use Rattle.resuming.specs.declared.fault.ResumeFault.TheVariants as fault
 
@@ -22,6 +23,11 @@ pub known_at : (fleet : FleetView) (before : ℕ) (plays : List Play) (first : P
     → find (names_nothing fleet) (named_parts plays) ≡ None → find (names_nothing fleet) (parts_of_play first) ≡ None
 known_at fleet before plays first later is known =
     known_first fleet first later (subst (λ (l : List Play). find (names_nothing fleet) (named_parts l) ≡ None) is (known_from fleet before plays known))
+
+-- what is so of whatever goes on is so of the answer
+pub all_ok : {T : Type 0} {P Q : T → Type 0} (result : Result T ResumeFault) → ((value : T) → P value → Q value) → IfOk result P → IfOk result Q
+all_ok (Ok value) maps is = maps value is
+all_ok (Err why) maps is = is
 
 -- what is so of whatever refuses is so of the fault
 pub all_err : {T : Type 0} {P Q : ResumeFault → Type 0} (result : Result T ResumeFault) → ((why : ResumeFault) → P why → Q why) → IfErr result P → IfErr result Q
@@ -68,3 +74,31 @@ module _ (inventory playbook names : List ℕ) (fleet : FleetView) (vars : List 
   not_begun (fault.Texts texts) is = absurd is
   not_begun (fault.Journal found) is = absurd is
   not_begun (fault.Mended found) is = absurd is
+
+-- what a run goes on with has the fleet and the plays of the texts
+module _ (inventory playbook names : List ℕ) (fleet : FleetView) (vars : List Vars) (plays : List Play) (hosts : AreHostsIn inventory fleet vars) (says : ArePlaysIn fleet playbook plays)
+    (mended : List ℕ) (named : IsMended fleet names mended) where
+  abbrev BeginsOn : Resumption → FleetView → List Play → Type 0
+  BeginsOn resumption f l = AreHostsIn inventory f vars × ArePlaysIn f playbook l × IsMended f names mended × IsGoneOn f l vars mended (begun_state f inventory playbook l) resumption
+
+  pub begins_with : (resumption : Resumption) → IsGoneOn fleet plays vars mended (begun_state fleet inventory playbook plays) resumption → IsMendedBeginning inventory playbook names resumption
+  begins_with resumption gone = record { vars = vars; hosts = own.0; says = own.1; mended = mended; named = own.2; gone = own.3 }
+    where
+      own : BeginsOn resumption resumption.fleet resumption.plays.items
+      own =
+          subst (λ (f : FleetView). BeginsOn resumption f resumption.plays.items) (sym gone.fleet_is)
+          (subst (λ (l : List Play). BeginsOn resumption fleet l) (sym gone.plays_are) (hosts, says, named, gone))
+
+  abbrev GoesOn : List ℕ → Bool → JournalState → Resumption → FleetView → List Play → Type 0
+  GoesOn journal takes_others state resumption f l =
+      AreHostsIn inventory f vars × ArePlaysIn f playbook l × IsMended f names mended × IsOwnJournal f inventory playbook takes_others journal state × IsGoneOn f l vars mended state resumption
+
+  pub resumes_with : (journal : List ℕ) (takes_others : Bool) (state : JournalState) → IsOwnJournal fleet inventory playbook takes_others journal state → (resumption : Resumption)
+      → IsGoneOn fleet plays vars mended state resumption → IsResumption inventory playbook journal names takes_others resumption
+  resumes_with journal takes_others state own_journal resumption gone =
+      record { vars = vars; hosts = own.0; says = own.1; mended = mended; named = own.2; state = state; own = own.3; gone = own.4 }
+    where
+      own : GoesOn journal takes_others state resumption resumption.fleet resumption.plays.items
+      own =
+          subst (λ (f : FleetView). GoesOn journal takes_others state resumption f resumption.plays.items) (sym gone.fleet_is)
+          (subst (λ (l : List Play). GoesOn journal takes_others state resumption fleet l) (sym gone.plays_are) (hosts, says, named, own_journal, gone))

@@ -8,7 +8,7 @@ use host_vars::Vars;
 
 /// The hosts as they begin the play that goes on: these owe its handlers. A number that no host has is passed over.
 pub(crate) fn with_debts(mut vars: Vec<Vars>, owing: &[HostId]) -> Vec<Vars>
-    ensures { OweAmong (host_numbers owing.now) vars.entry.items result.items }
+    ensures { OweAmong (host_numbers owing.now) vars.items result.items }
 {
     owe_all(vars.as_mut_slice(), owing);
     vars

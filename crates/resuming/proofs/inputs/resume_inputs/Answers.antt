@@ -1,6 +1,6 @@
 use Rattle.domains.specs.Ids.{host_numbers}
 use Rattle.journal.specs.Shown.{shown_journal}
-use Rattle.resuming.proofs.InputLemmas.{all_err, on_refused, own_refused}
+use Rattle.resuming.proofs.InputLemmas.{all_err, all_ok, on_refused, own_refused, resumes_with}
 use Rattle.resuming.proofs.StartLemmas.{all_kept}
 use Rattle.resuming.proofs.inputs.resume_inputs.Goals as goal
 
@@ -24,3 +24,13 @@ returns-clause-err c =
     (on_refused c.args.inventory.now c.args.playbook.now c.args.wish.journal.now c.args.wish.mended.now c.args.wish.takes_others inputs.fleet inputs.start.vars.items inputs.plays.items
     are.hosts are.says (host_numbers c.in-Ok-mended_hosts.mended.items) c.in-Ok-mended_hosts.ensures.ok (shown_journal c.in-Ok-read_own.journal) c.in-Ok-read_own.ensures.ok)
     c.go_on.ensures.err
+
+pub returns-clause-ok : goal.returns-clause-ok
+returns-clause-ok c =
+    let inputs = c.in-Ok.inputs in
+    let are = c.in-Ok.ensures.ok in
+    all_ok c.go_on.result
+    (resumes_with c.args.inventory.now c.args.playbook.now c.args.wish.mended.now inputs.fleet inputs.start.vars.items inputs.plays.items are.hosts are.says
+    (host_numbers c.in-Ok-mended_hosts.mended.items) c.in-Ok-mended_hosts.ensures.ok c.args.wish.journal.now c.args.wish.takes_others (shown_journal c.in-Ok-read_own.journal)
+    c.in-Ok-read_own.ensures.ok)
+    c.go_on.ensures.ok
