@@ -1,5 +1,5 @@
 -- Repaired hosts run what they owe.
-use Rattle.std.proofs.Common.{◌≡◌, ℕ, ◌<◌, Option, None, Some, List, length, true, sym, ap, ◌∙◌, arith}
+use Rattle.std.proofs.Common.{◌≡◌, ℕ, ◌<◌, Option, None, Some, List, length, true, sym, ap, ◌∙◌, arith, inl, inr}
 use Rattle.std.specs.List.{slice_get}
 use Rattle.std.proofs.lemmas.Bool.{both_ways}
 use Rattle.std.proofs.lemmas.List.{length-map}
@@ -27,7 +27,7 @@ use Rattle.outlook.specs.Laws.{RepairedHostsRunEachHandler}
 known_owes : (owing : List ℕ) (vars after : List Vars) (host : ℕ) → OweAmong owing vars after → host < length vars → has_number host owing ≡ true → (known_at after host).owes ≡ true
 known_owes owing vars after host owe within listed =
     elim (slice_get_cases after host).1 [
-      | inl found ↦ ap (λ (o : Option Vars). (known_with o).owes) found.2.1 ∙ owes_there owing vars after host found.0 owe within found.2.2 listed
+      | inl found ↦ ap (λ (o : Option Vars). (known_with o).owes) found.2 ∙ owes_there owing vars after host found.0 owe within found.3 listed
       | inr past ↦ absurd (omega (arith, within, past.0, owe.all))
     ]
 
