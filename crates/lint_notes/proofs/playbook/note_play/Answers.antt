@@ -22,12 +22,12 @@ returns-clause-notes c =
     let batched = c.note_batches.new.notes in
     let placed = c.note_local.new.notes in
     let lacks = c.in_ok-lacks.ensures in
-    let waiting : c.in_ok-lacks.lacks.waiting.now ≡ waiting_for fleet play = lacks.waiting ∙ c.as_slice.ensures.value ∙ c.in_ok-targets.ensures.waiting in
-    let elsewhere : c.in_ok-lacks.lacks.elsewhere ≡ goes_elsewhere play.steps.items = lacks.elsewhere ∙ ap goes_elsewhere c.steps.ensures.value in
+    let waiting : c.in_ok-lacks.lacks.waiting.now ≡ waiting_for fleet play = lacks.waiting ∙ c.as_slice-waiting.ensures.value ∙ c.in_ok-targets.ensures.waiting in
+    let elsewhere : c.in_ok-lacks.lacks.elsewhere ≡ goes_elsewhere play.steps.items = lacks.elsewhere ∙ ap goes_elsewhere c.steps-steps.ensures.value in
     let crowd = crowd_for fleet (value_in scene.vars.now) (has_missed scene.given.now) play in
     let differs : (name : Name) → differs_in c.in_ok-lacks.lacks c.in_ok-results.results name ≡ crowd.differs name = λ name.
     c.in_ok-results.ensures name
-    ∙ (λ i. named_by (are_several (waiting i)) (λ name. varies_among (value_in (lacks.vars i) name) (waiting i)) (c.steps.ensures.value i) name) in
+    ∙ (λ i. named_by (are_several (waiting i)) (λ name. varies_among (value_in (lacks.vars i) name) (waiting i)) (c.steps-steps.ensures.value i) name) in
     let foreseen = foreseen_in plays.fleet.now plays.plays.now scene.vars.now number in
     let local = noted (local_play_note crowd foreseen (number + 1) play) in
     let steps = steps_notes is_set crowd foreseen number play in
