@@ -1,5 +1,5 @@
 -- What a run reads of the file that it locks.
-use Rattle.std.specs.Prelude.{ℕ, Bool, List, Option, ⊤, ⊥, string_bytes}
+use Rattle.std.specs.Prelude.{ℕ, Bool, List, Option, ⊤, string_bytes}
 use Rattle.command_line.specs.declared.command.Source.{Source}
 use Rattle.command_line.specs.declared.command.Source.TheVariants.{StandardInput, File}
 use Rattle.rollout.specs.Inputs.{IsFaultOfFile, IsTextOfFile}
