@@ -58,11 +58,11 @@ def is_ssh(step):
 
 
 def results_of(scene):
-    """Of the names under which steps of a play register results, whether these may differ between the hosts: where a word of such a step does."""
-    found = {}
-    for step in scene.play.tasks + scene.play.handlers:
-        if step.register is not None:
-            found[step.register] = (found.get(step.register, False) and not turned("lint-each-result-of-a-name-counts")) or names_its_host(step, found, scene)
+    """Of the names under which steps of a play register results, whether these may differ between the hosts: where a word of such a step does, by the results of steps before it."""
+    steps = [step for step in scene.play.tasks + scene.play.handlers if step.register is not None]
+    found = {step.register: False for step in steps}
+    for step in steps:
+        found[step.register] = (found[step.register] and not turned("lint-each-result-of-a-name-counts")) or names_its_host(step, found, scene)
     return found
 
 
