@@ -269,11 +269,11 @@ def a_status_told_otherwise_in_the_man_page(copy):
 
 
 def a_fault_explained_otherwise_than_on_its_page(copy):
-    copy.change(f"{explained.CRATE}/src/faults.rt", "the text is no JSON", "the text is JSON")
+    copy.change(f"{explained.CRATE}/src/entries.rt", "the text is no JSON", "the text is JSON")
 
 
 def a_note_explained_otherwise_than_on_its_page(copy):
-    copy.change(f"{explained.CRATE}/src/notes.rt", "no task of its play notifies", "a task of its play notifies")
+    copy.change(f"{explained.CRATE}/src/entries.rt", "no task of its play that might", "a task of its play that might")
 
 
 def a_kind_of_notes_that_a_refusal_leaves_out(copy):
