@@ -212,11 +212,11 @@ def compare_promises(count):
 
 
 def compare_starting_points(count):
-    """What PROVED and ARCHITECTURE name as `NAME` in `FILE` is defined there."""
-    for page in ("docs/PROVED.md", "docs/ARCHITECTURE.md"):
-        for names, path in re.findall(r"((?:`\w+`, )*`\w+`) in\s+`(crates/[\w/]+\.\w+)`", tree.read(page)):
-            for name in ticks(names):
-                count.row(is_defined(name, path), f"{page}: no {name} in {path}")
+    """What PROVED names where it says where the contracts are is defined in the file beside it."""
+    points = re.findall(r"`(\w+)` in\s+`(crates/[\w/]+\.\w+)`", section(tree.read("docs/PROVED.md"), "Where the contracts are"))
+    count.row(points, "docs/PROVED.md: no contract with which to start")
+    for name, path in points:
+        count.row(is_defined(name, path), f"docs/PROVED.md: no {name} in {path}")
 
 
 def compare_crates_of_proved(count, crates):
