@@ -12,12 +12,12 @@ import sys
 import tree
 
 HEAD = re.compile(r"(?:(?:abbrev|pub|unfoldable|record|data|opaque)\s+)++(?!use\b|mod\b|mutual\b)([^\s(:]+)")
-# What stands in such a block is indented, and defined as if it weren't; anything else that is indented is part of a definition.
+# Definitions in such a block are indented. Anything else that is indented is part of a definition.
 BLOCK = re.compile(r"(?:abbrev )?mutual$|module .* where$")
 
 
 def definitions_of(crate):
-    """By the file of a crate's specs: what its first lines say, and each definition with the comment above it."""
+    """For each file of a crate's specs: the comment at its top, and each definition with the comment above it."""
     return {os.path.basename(path): _definitions_in(tree.read(path)) for path in tree.found(f"crates/{crate}/specs/*.antt")}
 
 
@@ -39,14 +39,16 @@ def _joined(lines):
     return " ".join(line[2:].strip() for line in lines).strip()
 
 
-def main(crates):
-    for crate in crates or tree.crates():
+def main(chosen):
+    crates = tree.crates()
+    for crate in chosen or crates:
+        if crate not in crates:
+            sys.exit(f"definitions: no crate {crate}")
         files = {file: said for file, said in definitions_of(crate).items() if said[1]}
         if files:
             print(f"# {crate}\n")
         for file, (about, found) in files.items():
-            print(f"{file}: {about}".rstrip(": "))
-            print("".join(f"    {name}: {said}".rstrip(": ") + "\n" for name, said in found))
+            print(f"{file}: {about}".rstrip(": "), *(f"    {name}: {said}".rstrip(": ") for name, said in found), "", sep="\n")
 
 
 if __name__ == "__main__":
