@@ -376,9 +376,9 @@ def compare_names(count, crates, named):
 
 
 def compare_scripts(count):
-    """Both lists of scripts have each script of tests/, and ARCHITECTURE names each."""
+    """Both lists of scripts have each script of tests/, and ARCHITECTURE names each; PROVED says what each shows, but for the one that compares pages."""
     scripts = {os.path.basename(path)[:-3] for path in tree.found("tests/*.sh")} - NOT_IN_THE_GATE
-    architecture = tree.read("docs/ARCHITECTURE.md")
+    architecture, proved = tree.read("docs/ARCHITECTURE.md"), tree.read("docs/PROVED.md")
     for path in ("tests/gate.sh", "tests/all.sh"):
         listed = re.search(r"(?:set --|gate\.sh\") ((?:[a-z_]+ ){3,}[a-z_]+)", tree.read(path))
         listed = set(listed[1].split()) if listed else set()
@@ -389,6 +389,7 @@ def compare_scripts(count):
         count.row(name in scripts and name in tested, f"tests/test.sh: {name} is " + ("listed, and no script" if name in tested else "a script that it neither runs nor leaves out"))
     for name in sorted(scripts):
         count.row(f"tests/{name}.sh" in architecture, f"docs/ARCHITECTURE.md doesn't name tests/{name}.sh")
+        count.row(f"tests/{name}.sh" in proved or name == "house", f"docs/PROVED.md doesn't name tests/{name}.sh")
 
 
 def compare_folders(count):

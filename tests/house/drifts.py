@@ -87,6 +87,10 @@ def a_promise_whose_call_has_no_contract(copy):
     copy.write(path, re.sub(r"^    ensures .*\n", "", copy.read(path), flags=re.M))
 
 
+def a_script_of_which_proved_says_nothing(copy):
+    copy.change("docs/PROVED.md", "`tests/programs.sh`, `tests/children.sh`", "`tests/programs.sh`")
+
+
 def a_contract_to_start_with_that_is_gone(copy):
     copy.change("crates/rollout/specs/Runs.antt", "abbrev pub StartsSafely :", "abbrev pub StartsSafelyAnew :")
 
