@@ -1,5 +1,5 @@
 # `make` builds the program and runs it. The gate is `make check`: every proof, test and edit of must-fail/, then the scripts on the program that this built.
-.PHONY: build check deb drawn drifts edits install look pages planted scripts test touched uninstall
+.PHONY: build check deb definitions drawn drifts edits install look pages planted scripts test touched uninstall
 
 build:
 	@sh tests/build.sh
@@ -30,6 +30,10 @@ drawn:
 # The lists and counts of the pages and of the man page that are made from the tree; tests/house.sh fails where this would change anything.
 pages:
 	@python3 tests/house/made.py
+
+# The definitions that contracts cite, crate by crate, each with the comment above it. `make definitions`, `make definitions CRATES="journal keeping"`
+definitions:
+	@python3 tests/house/definitions.py $(CRATES)
 
 # Drifts of the pages and the tree, each put into a copy: tests/house.sh has to tell it.
 drifts:

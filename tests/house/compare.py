@@ -11,6 +11,7 @@ import re
 import sys
 
 import contracts
+import definitions
 import explained
 import made
 import tree
@@ -183,47 +184,6 @@ def compare_rules(count):
                 count.row(any(is_defined(name, path) for path in files), f"docs/ARCHITECTURE.md: {rule}: no {name} in {', '.join(files) or 'any file'}")
 
 
-def compare_promises(count):
-    """PROVED has a row of promises for each command; each call that carries one is public, in the file that stands beside it."""
-    rows = made.rows_of(section(tree.read("docs/PROVED.md"), "What is promised, by command"))
-    of = {re.match(r"`(\w+)`", cells[0])[1] for cells in rows if cells[0].startswith("`")}
-    for path in tree.found("crates/rollout/src/commands/*.rt"):
-        for command in re.findall(r"^//! The command `(\w+)`", tree.read(path), re.M):
-            count.row(command in of, f"docs/PROVED.md: no promise of `{command}`")
-    for cells in rows:
-        calls = [(name, path) for files, names in places_in(cells[-1]) for name in names for path in files]
-        count.row(calls, f"docs/PROVED.md: no call carries the promise of {cells[0]}")
-        for name, path in calls:
-            holds = stands(path) and re.search(rf"^\s*pub fn {name}\b", tree.read(path), re.M)
-            count.row(holds, f"docs/PROVED.md: no public function {name} in {path}")
-
-
-def has_code(name):
-    """Whether a crate has a function, but for worked ones of definitions."""
-    sources = [path for path in tree.found(f"crates/{name}/src/**/*.rt") if not path.endswith("/worked.rt")]
-    return any(item.kind == "fn" for path in sources for item in items_of(tree.read(path)))
-
-
-def contracts_in(text):
-    """The entries of PROVED: each crate that a heading names, and what stands before the colon of each item below it."""
-    crate, entries = "", []
-    for line in re.sub(r"\n  (?=\S)", " ", text).split("\n"):
-        if line.startswith("#"):
-            crate = (ticks(line) or [""])[0]
-            entries += [(crate, "")] if crate else []
-        elif line.startswith("- "):
-            entries.append((crate, re.split(r":\s", line[2:], maxsplit=1)[0]))
-    return entries
-
-
-def compare_crates_of_proved(count, crates):
-    """PROVED has contracts of each crate that has code, or says in words that it has none."""
-    said = section(tree.read("docs/PROVED.md"), "Contracts, crate by crate")
-    words = {crate for crate, head in contracts_in(said) if head} | set(ticks(re.sub(r"^(?:- |  |#).*\n", "", said, flags=re.M)))
-    for name in crates:
-        count.row(name in words or not has_code(name), f"docs/PROVED.md has no contracts of {name}")
-
-
 def is_handed_out(call, crate, texts):
     """Whether a crate hands out the call: by its name or that of its type, or as a method of a type or trait that it hands out."""
     handed = contracts.handed_out(texts, crate)
@@ -233,22 +193,42 @@ def is_handed_out(call, crate, texts):
     return any(item.name == call and item.is_public and set(re.findall(r"\w+", item.owner)) & handed for item in items if item.kind == "fn")
 
 
-def compare_table_of_contracts(count, named):
-    """Each call of an entry of PROVED stands in the crate of its heading, and that hands it out, or a file in which it stands is named beside it; each crate has a
-    heading there, or is said to have none."""
-    said = section(tree.read("docs/PROVED.md"), "Contracts, crate by crate")
+def compare_promises(count):
+    """PROVED has a row of promises for each command. What carries one is in the file beside it, a public function with a contract or a public type, and its crate hands it out."""
+    rows = made.rows_of(section(tree.read("docs/PROVED.md"), "Promises by command"))
+    of = {re.match(r"`(\w+)`", cells[0])[1] for cells in rows if cells[0].startswith("`")}
+    for path in tree.found("crates/rollout/src/commands/*.rt"):
+        for command in re.findall(r"^//! The command `(\w+)`", tree.read(path), re.M):
+            count.row(command in of, f"docs/PROVED.md: no promise of `{command}`")
     texts = {path: tree.read(path) for path in tree.found("crates/*/src/**/*.rt")}
-    for name in named:
-        count.row(f"`{name}`" in said, f"docs/PROVED.md: no contracts of {name}")
-    for crate, head in contracts_in(said):
-        count.row(crate in named, f"docs/PROVED.md: contracts of {crate or head}, which is no crate")
-        files = [f"crates/{crate}/{word}" for word in ticks(head) if word.startswith("src/")]
-        for call in ticks(head):
-            if re.fullmatch(r"[\w:]+", call) and crate in named:
-                has, name = named[crate], call.split("::")[-1]
-                count.row(call in has.public | has.functions | has.types, f"docs/PROVED.md: {crate} has no {call}")
-                holds = any(f"fn {name}" in texts.get(path, "") for path in files) or is_handed_out(call, crate, texts)
-                count.row(holds, f"docs/PROVED.md: {crate} doesn't hand out {call}, and no file beside it has it")
+    for cells in rows:
+        calls = [(name, path) for files, names in places_in(cells[-1]) for name in names for path in files]
+        count.row(calls, f"docs/PROVED.md: no call carries the promise of {cells[0]}")
+        for name, path in calls:
+            items = [item for item in items_of(texts.get(path, "")) if item.name == name and item.is_public]
+            count.row(items, f"docs/PROVED.md: {path} has nothing public of the name {name}")
+            count.row(any(item.kind != "fn" or item.clauses for item in items), f"docs/PROVED.md: {name} of {path} has no contract")
+            count.row(is_handed_out(name, path.split("/")[1], texts), f"docs/PROVED.md: {path.split('/')[1]} doesn't hand out {name}")
+
+
+def compare_starting_points(count):
+    """What PROVED names where it says where the contracts are is defined in the file beside it."""
+    points = re.findall(r"`(\w+)` in\s+`(crates/[\w/]+\.\w+)`", section(tree.read("docs/PROVED.md"), "Where the contracts are"))
+    count.row(points, "docs/PROVED.md: no contract with which to start")
+    for name, path in points:
+        count.row(is_defined(name, path), f"docs/PROVED.md: no {name} in {path}")
+
+
+def compare_crates_of_proved(count, crates):
+    """Each crate has a public function with a contract, unless PROVED names it among those without; and these are of the family of tests."""
+    said = re.search(r"^\*\*Without contracts\*\*:(?:.+\n)+", tree.read("docs/PROVED.md"), re.M)
+    said = set(ticks(said[0])) if said else set()
+    for name in crates:
+        items = (item for path in tree.found(f"crates/{name}/src/**/*.rt") for item in items_of(tree.read(path)))
+        has = any(item.kind == "fn" and item.is_public and item.clauses for item in items)
+        count.row(has or name in said, f"docs/PROVED.md doesn't say that {name} has no contracts")
+    for name in said:
+        count.row(name in tree.families().get("tests", []), f"docs/PROVED.md: {name} is no crate of tests, and said to have no contracts")
 
 
 def names_by_place(crate, root, items):
@@ -285,39 +265,20 @@ def compare_public_names(count, named):
                 count.row(name not in handed.get(place, {}).get("", set()), f"docs/DECISIONS.md: {place} does hand out {name}")
 
 
-def definitions_in(text):
-    """The entries of DEFINITIONS: each with the crates of its heading and what it says of its files, the last cell of a row or what stands between the last
-    brackets of an item."""
-    crates, entries = [], []
-    for line in re.sub(r"\n  (?=\S)", " ", text).split("\n"):
-        if line.startswith("#"):
-            crates = re.findall(r"crates/(\w+)/specs", line)
-        cells = made.cells_of(line) if line.startswith("| ") else []
-        if len(cells) == 3 and cells[2] != "File":
-            entries.append((crates, cells[2]))
-        elif line.startswith("- "):
-            entries.append((crates, line.rpartition(" (")[2].removesuffix(")")))
-    return entries
-
-
-def compare_definitions(count, crates):
-    """Each file and definition of DEFINITIONS stands where it says."""
-    for crate, files_said in definitions_in(tree.read("docs/DEFINITIONS.md")):
-        for name in crate:
-            count.row(name in crates, f"docs/DEFINITIONS.md: {name} is no crate")
-        carried, named = crate, 0
-        for part in files_said.split(";"):
-            carried = [name for name in ticks(part) if name in crates] or carried
-            files = []
-            for word in ticks(part):
-                if re.fullmatch(r"[\w/]+\.(antt|rt)", word):
-                    files = [path for name in carried for path in tree.found(f"crates/{name}/specs/{word}", f"crates/{name}/{word}")]
-                    named += 1
-                    count.row(files, f"docs/DEFINITIONS.md: no file {word} in {', '.join(carried)}")
-                elif re.fullmatch(r"\w+", word) and word not in crates and files:
-                    holds = any(re.search(rf"(?<!\w){word}(?!\w)", tree.read(path)) for path in files)
-                    count.row(holds, f"docs/DEFINITIONS.md: no {word} in {', '.join(files)}")
-        count.row(named, f"docs/DEFINITIONS.md: an entry of {', '.join(crate) or 'the glossary'} without a file: {files_said[:60]}")
+def compare_definitions(count, crates, named):
+    """Each term of the glossary ends in brackets with a crate and names that it defines, or with a page, folder or file; each stands there once."""
+    entries = re.findall(r"^- \*\*(.+?)\*\*(.*(?:\n  .*)*)", section(tree.read("docs/DEFINITIONS.md"), "Glossary"), re.M)
+    count.row(len(entries) > 40, "docs/DEFINITIONS.md has no glossary")
+    for term, said in entries:
+        count.row([term for term, _ in entries].count(term) == 1, f"docs/DEFINITIONS.md has {term} more than once")
+        place = re.search(r"\((?:`(\w+)`: ((?:`\w+`(?:, )?)+)|`[\w./]+`|\[[^\]]+\]\([^)]+\))\)$", said)
+        count.row(place, f"docs/DEFINITIONS.md: {term} ends without a definition or a page")
+        crate = place[1] if place else None
+        count.row(not crate or crate in crates, f"docs/DEFINITIONS.md: {term}: {crate} is no crate")
+        if crate in crates:
+            defined = {name for _, found in definitions.definitions_of(crate).values() for name, _ in found} | named[crate].types
+            for name in ticks(place[2]):
+                count.row(name in defined, f"docs/DEFINITIONS.md: {term}: {crate} defines no {name}")
 
 
 def compare_counts(count, crates):
@@ -369,8 +330,6 @@ def compare_links(count):
 def compare_files_of_crates(count, crates):
     """A file named as `src/..` or `specs/..` stands in a crate that the same line or its heading names."""
     for path in tree.pages():
-        if path == "docs/DEFINITIONS.md":
-            continue
         heading, before = [], []
         for line in tree.read(path).split("\n"):
             if line.startswith("#"):
@@ -417,9 +376,9 @@ def compare_names(count, crates, named):
 
 
 def compare_scripts(count):
-    """Both lists of scripts have each script of tests/, and ARCHITECTURE names each."""
+    """Both lists of scripts have each script of tests/, and ARCHITECTURE names each; PROVED says what each shows, but for the one that compares pages."""
     scripts = {os.path.basename(path)[:-3] for path in tree.found("tests/*.sh")} - NOT_IN_THE_GATE
-    architecture = tree.read("docs/ARCHITECTURE.md")
+    architecture, proved = tree.read("docs/ARCHITECTURE.md"), tree.read("docs/PROVED.md")
     for path in ("tests/gate.sh", "tests/all.sh"):
         listed = re.search(r"(?:set --|gate\.sh\") ((?:[a-z_]+ ){3,}[a-z_]+)", tree.read(path))
         listed = set(listed[1].split()) if listed else set()
@@ -430,6 +389,7 @@ def compare_scripts(count):
         count.row(name in scripts and name in tested, f"tests/test.sh: {name} is " + ("listed, and no script" if name in tested else "a script that it neither runs nor leaves out"))
     for name in sorted(scripts):
         count.row(f"tests/{name}.sh" in architecture, f"docs/ARCHITECTURE.md doesn't name tests/{name}.sh")
+        count.row(f"tests/{name}.sh" in proved or name == "house", f"docs/PROVED.md doesn't name tests/{name}.sh")
 
 
 def compare_folders(count):
@@ -447,7 +407,7 @@ def compare_folders(count):
 
 def compare_trusted(count, crates):
     """PROVED says of each ported library that a crate stands on that it is trusted, and of no other."""
-    trusted = re.search(r"^\*\*Trusted\*\*:(?:.+\n)+", tree.read("docs/PROVED.md"), re.M)
+    trusted = re.search(r"^- \*\*Ported crates\*\*(?:.+\n)+", section(tree.read("docs/PROVED.md"), "What is trusted"), re.M)
     trusted = set(ticks(trusted[0])) if trusted else set()
     ported = {below for name in crates for below in crates[name]} - set(crates)
     for name in sorted(ported | trusted):
@@ -482,10 +442,10 @@ def main():
     compare_crates(count, crates)
     compare_rules(count)
     compare_promises(count)
+    compare_starting_points(count)
     compare_crates_of_proved(count, crates)
-    compare_table_of_contracts(count, named)
     compare_public_names(count, named)
-    compare_definitions(count, crates)
+    compare_definitions(count, crates, named)
     compare_counts(count, crates)
     compare_paths(count)
     compare_links(count)

@@ -15,6 +15,7 @@ import tempfile
 from concurrent.futures import ThreadPoolExecutor
 
 import compare
+import definitions
 import explained
 import made
 import tree
@@ -64,16 +65,34 @@ def a_family_of_which_nothing_is_said(copy):
     copy.change(path, *re.search(r"^- (\*\*\w+\*\*: .*)\n()", body, re.M).groups())
 
 
-def a_crate_left_out_of_proved(copy):
-    text = copy.read("docs/PROVED.md")
-    said = compare.section(text, "Contracts, crate by crate")
-    entries = next(found for found in re.finditer(r"^#### `(\w+)`\n\n(?:(?:- |  ).*\n)+", said, re.M) if said.count(f"`{found[1]}`") == 1 and compare.has_code(found[1]))
-    copy.write("docs/PROVED.md", text.replace(entries[0], ""))
+def promises():
+    """PROVED's table of promises."""
+    return compare.section(tree.read("docs/PROVED.md"), "Promises by command")
 
 
-def a_call_that_its_crate_keeps(copy):
-    said = compare.section(copy.read("docs/PROVED.md"), "Contracts, crate by crate")
-    copy.change("docs/PROVED.md", re.search(r"^- `\w+`( \(`src/\w+\.rt`\)):", said.split("#### `play_read`")[1], re.M)[1], "")
+def a_crate_without_contracts_of_which_proved_says_nothing(copy):
+    copy.change("docs/PROVED.md", "**Without contracts**: `core_tests`, ", "**Without contracts**: ")
+
+
+def a_crate_that_proved_calls_one_without_contracts(copy):
+    copy.change("docs/PROVED.md", "**Without contracts**: ", "**Without contracts**: `planning`, ")
+
+
+def a_promise_whose_call_its_crate_keeps(copy):
+    copy.change("crates/outlook/src/lib.rt", "pub use limits::limits_from;\n", "")
+
+
+def a_promise_whose_call_has_no_contract(copy):
+    path = re.search(r"`\w+` in `(crates/\w+/src/laws\.rt)`", promises())[1]
+    copy.write(path, re.sub(r"^    ensures .*\n", "", copy.read(path), flags=re.M))
+
+
+def a_script_of_which_proved_says_nothing(copy):
+    copy.change("docs/PROVED.md", "`tests/programs.sh`, `tests/children.sh`", "`tests/programs.sh`")
+
+
+def a_contract_to_start_with_that_is_gone(copy):
+    copy.change("crates/rollout/specs/Runs.antt", "abbrev pub StartsSafely :", "abbrev pub StartsSafelyAnew :")
 
 
 def row_of_public_name(copy, name):
@@ -104,13 +123,11 @@ def a_public_name_without_a_reason(copy):
 
 
 def a_command_without_a_promise(copy):
-    said = compare.section(tree.read("docs/PROVED.md"), "What is promised, by command")
-    copy.change("docs/PROVED.md", re.search(r"^\| `rehearse` \|.*\n", said, re.M)[0], "")
+    copy.change("docs/PROVED.md", re.search(r"^\| `rehearse` \|.*\n", promises(), re.M)[0], "")
 
 
-def a_crate_that_proved_names_nowhere(copy):
-    name = list(tree.crates())[0]
-    copy.change("docs/PROVED.md", f"`{name}`", "", -1)
+def a_library_that_proved_calls_trusted_no_more(copy):
+    copy.change("docs/PROVED.md", "`serde_json`, ", "")
 
 
 def a_crate_that_is_gone(copy):
@@ -131,8 +148,7 @@ def a_count_of_bugs_off_by_one(copy):
 
 
 def a_function_renamed(copy):
-    said = compare.section(tree.read("docs/PROVED.md"), "What is promised, by command")
-    name, crate = re.search(r"`(\w+)` in `crates/(\w+)/", said).groups()
+    name, crate = re.search(r"`(\w+)` in `crates/(\w+)/", promises()).groups()
     changed = False
     for path in tree.found(f"crates/{crate}/src/**/*.rt"):
         source = copy.read(path)
@@ -214,13 +230,18 @@ def a_heading_renamed(copy):
 
 
 def a_definition_renamed(copy):
-    crate, file, name = re.search(r"\(`crates/(\w+)/specs`\)\n\n- \*\*[^()]*\(`(\w+\.antt)`: `(\w+)`", tree.read("docs/DEFINITIONS.md")).groups()
+    crate, name = re.search(r"\(`(\w+)`: `(\w+)`\)$", tree.read("docs/DEFINITIONS.md"), re.M).groups()
+    file = next(file for file, (_, found) in definitions.definitions_of(crate).items() if name in dict(found))
     path = f"crates/{crate}/specs/{file}"
     copy.write(path, re.sub(rf"(?<!\w){name}(?!\w)", name + "Anew", copy.read(path)))
 
 
-def a_definition_without_a_file(copy):
-    copy.change("docs/DEFINITIONS.md", re.search(r"^- \*\*(?:.|\n  )*?( \(`\w+\.antt`[^()]*\))$", tree.read("docs/DEFINITIONS.md"), re.M)[1], "")
+def a_term_without_a_definition(copy):
+    copy.change("docs/DEFINITIONS.md", re.search(r" \(`\w+`: `\w+`\)$", tree.read("docs/DEFINITIONS.md"), re.M)[0], "")
+
+
+def a_term_that_stands_twice(copy):
+    copy.change("docs/DEFINITIONS.md", "- **bound**: ", "- **plan**: ")
 
 
 def a_bug_without_a_row(copy):
