@@ -37,16 +37,20 @@ done
 
 # By hand.
 run explain 301
-check 'one of them, by hand' 0 '301 NotNested: two limited groups share a host, and neither lies within the other
+check 'one of them, by hand' 0 '301 NotNested: two limited groups share a host, and neither contains the other
 
 ```
 $ rollout limits examples/crossing-racks.json
 rollout: 301 NotNested host=web-1 first=rack9 second=row1
 ```
 
-The host is in both groups, both have a limit, and neither stands below the other; it is the first such by name, with its
-first two. Where the host is in one by mistake, take it out there. Where one has all hosts of the other, put the other below it ([racks and services](FROM_ANSIBLE.md#racks-and-services)). Else
-keep `max_down` on one kind of group, as the racks, the same for every pair that `lint` tells, and take it off the other, or move it to groups of its hosts below those that keep it.
+The host is in both groups, both have a limit, and neither contains the other.
+
+- If the host is in one of them by mistake, remove it there.
+- If one group has all hosts of the other, nest the other below it
+  ([racks and services](FROM_ANSIBLE.md#racks-and-services)).
+- Otherwise keep `max_down` on one kind of group, such as racks, for every pair that `lint` reports. Remove
+  it from the other kind, or nest parts of that kind below the first.
 ' ''
 run explain idle-step
 [ "$(head -n 1 "$work/out")" = "idle-step at=PATH: the \`when\` of the step holds on no waiting host" ] && pass || fail "the rule idle-step, by hand: $(head -n 1 "$work/out")"

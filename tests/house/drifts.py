@@ -290,7 +290,7 @@ def a_status_told_otherwise_in_the_man_page(copy):
 
 
 def a_fault_explained_otherwise_than_on_its_page(copy):
-    copy.change(f"{explained.CRATE}/src/entries.rt", "the text is no JSON", "the text is JSON")
+    copy.change(f"{explained.CRATE}/src/entries.rt", "the inventory is not valid JSON", "the inventory is valid JSON")
 
 
 def a_note_explained_otherwise_than_on_its_page(copy):

@@ -106,7 +106,7 @@ def of_man():
         if front.startswith("-") and section in ("COMMANDS", "OPTIONS"):
             names, _, value = re.match(r"((?:-[\w-]+(?:, )?)+)( (.*))?", front).groups()
             # Of an option of each command it says behind which ones it may stand.
-            behind = re.findall(r"\w+", said.partition("\nBehind\n")[2].partition("it prints")[0])
+            behind = re.findall(r"\w+", said.partition("\nAfter\n")[2].partition("it prints")[0])
             for command in [below] if below else [TOP, *(word for word in behind if word in usage.options)]:
                 usage.option(command, names.split(", "), value or "")
     return usage
