@@ -308,9 +308,10 @@ def compare_paths(count):
 
 
 def anchors_of(path):
-    """The anchors of a page's headings."""
+    """The anchors of a page's headings, and those that stand alone in a line."""
     text = re.sub(r"^```.*?^```", "", tree.read(path), flags=re.S | re.M)
-    return {re.sub(r"[^\w\- ]", "", heading.lower()).replace(" ", "-") for heading in re.findall(r"^#+ (.*)$", text, re.M)}
+    alone = re.findall(r'^<a id="([\w-]+)"></a>$', text, re.M)
+    return {*alone, *(re.sub(r"[^\w\- ]", "", heading.lower()).replace(" ", "-") for heading in re.findall(r"^#+ (.*)$", text, re.M))}
 
 
 def compare_links(count):

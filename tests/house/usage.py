@@ -176,7 +176,7 @@ def of_fish():
 def of_formats():
     """The table of FORMATS; `COMMAND` there is each command that is listed before."""
     usage, text = Usage(), tree.read(FORMATS)
-    rows = made.rows_of(text[text.index("\n## The line of words") : text.index("\n## The playbook")])
+    rows = made.rows_of(text[text.index("\n## Command line") : text.index("\n## The playbook")])
     for cells in sorted(rows, key=lambda cells: "COMMAND" in cells[0]):
         of = [TOP]
         for word in re.findall(r"`([^`]+)`", " ".join(cells)):
@@ -285,7 +285,7 @@ def compare_statuses(count, program):
 def compare_rehearsal(count, program):
     """The man page has the commands of a rehearsal that FORMATS has, and that a rehearsal lists."""
     text = tree.read(FORMATS)
-    rows = made.rows_of(text[text.index("\n## A rehearsal") :])
+    rows = made.rows_of(text[text.index("\n## A rehearsal") : text.index("\n## All errors")])
     page = {word for cells in rows for word in re.findall(r"`([a-z]+|\?)(?: [A-Z]+)?`", cells[0])}
     man = {name for section, below, front, _ in man_sections() if section == "COMMANDS" and below == "rehearse" and front and not front.startswith("-") for name in re.findall(r"[a-z]+|\?", front)}
     listed = man
