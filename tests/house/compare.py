@@ -174,8 +174,8 @@ def is_defined(name, path):
 
 def compare_rules(count):
     """Each row of ARCHITECTURE's table of rules names files, and what it names beside them is defined there."""
-    rows = made.rows_of(section(tree.read("docs/ARCHITECTURE.md"), "Where a rule stands"))
-    count.row(rows, "docs/ARCHITECTURE.md: no table of where a rule stands")
+    rows = made.rows_of(section(tree.read("docs/ARCHITECTURE.md"), "Where to look"))
+    count.row(rows, "docs/ARCHITECTURE.md: no table of where to look")
     for rule, *cells in rows:
         count.row(len(cells) == 2 and any(files for cell in cells for files, _ in places_in(cell)), f"docs/ARCHITECTURE.md: no file for '{rule}'")
         for files, names in (place for cell in cells for place in places_in(cell)):

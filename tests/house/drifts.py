@@ -144,13 +144,13 @@ def a_function_renamed(copy):
 
 
 def a_rule_that_stands_elsewhere(copy):
-    said = compare.section(tree.read("docs/ARCHITECTURE.md"), "Where a rule stands")
+    said = compare.section(tree.read("docs/ARCHITECTURE.md"), "Where to look")
     path, name = re.search(r"`(crates/\w+/specs/\w+\.antt)`: `(\w+)`", said).groups()
     copy.write(path, re.sub(rf"(?<!\w){name}(?!\w)", name + "Anew", copy.read(path)))
 
 
 def a_rule_without_a_file(copy):
-    said = compare.section(tree.read("docs/ARCHITECTURE.md"), "Where a rule stands")
+    said = compare.section(tree.read("docs/ARCHITECTURE.md"), "Where to look")
     rule = re.search(r"^\| ([^|]*) \| `crates/.*\n", said, re.M)
     copy.change("docs/ARCHITECTURE.md", rule[0], f"| {rule[1]} | | |\n")
 
@@ -184,7 +184,7 @@ def a_dependency_off(copy):
 def a_first_line_off(copy):
     root = tree.found("crates/*/src/lib.rt")[2]
     first = copy.read(root).split("\n")[0]
-    copy.change(root, first, first.rstrip(".") + " and more.")
+    copy.change(root, first, first.replace("//! ", "//! Anew, ", 1))
 
 
 def a_scripts_name_off(copy):

@@ -39,8 +39,15 @@ def rows_of(text):
     return [row for row in rows if row]
 
 
+def gist(name):
+    """What a crate is for, in short: the first sentence of its root, up to a colon; if the crate's name stands before the colon, what follows."""
+    first = re.split(r"(?<=\.)\s", tree.purpose(name))[0].rstrip(".")
+    head, _, rest = first.partition(": ")
+    return rest if head == name and rest else head
+
+
 def made_crates(_said):
-    """Each crate, lowest first, with the paragraph at its top: under the heading of its family, where crates.txt has families."""
+    """Each crate, lowest first, with what it is for in short: under the heading of its family, if crates.txt has families."""
     crates, families = tree.crates(), tree.families()
     placed = {name for own in families.values() for name in own}
     lists = {"": [name for name in crates if name not in placed], **{family: [name for name in crates if name in own] for family, own in families.items()}}
@@ -49,7 +56,7 @@ def made_crates(_said):
         if family:
             parts.append(f"### {family}")
         if own:
-            parts.append("\n".join(f"- `{name}`: {tree.purpose(name)}" for name in own))
+            parts.append("\n".join(f"- `{name}`: {gist(name)}" for name in own))
     return "\n\n".join(parts) + "\n"
 
 
@@ -81,7 +88,7 @@ def made_edit_counts(_said):
     tried = [crate for (crate, _), (folder, _) in edits.items() if folder == "must-fail"]
     rest = len(edits) - len(tried)
     return (
-        f"{len(tried)} edits stand in `must-fail/` of {len(set(tried))} crates, of at most {MOST_EDITS} in {MOST_ROOMS}; {rest} more stand in `edits/`, of "
+        f"{len(tried)} mutants are in `must-fail/` of {len(set(tried))} crates, of at most {MOST_EDITS} in {MOST_ROOMS}; {rest} more are in `edits/` of "
         f"{len({crate for (crate, _), (folder, _) in edits.items() if folder == 'edits'})} crates.\n"
     )
 
