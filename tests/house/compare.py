@@ -72,6 +72,8 @@ def compare_made_parts(count):
     for line in pages[made.EDITS].split("\n")[1:-1]:
         cells = line.split("\t")
         count.row(all(cells) and re.fullmatch(r"\d{4}-\d\d-\d\d", cells[-1]), f"{made.EDITS}: the row of {cells[1]} in {cells[0]} lacks who refused it, the goal, or the date")
+    for line in pages[made.RULES].split("\n")[1:-1]:
+        count.row(re.fullmatch(r"[\w-]+\t\w+\t\d+", line), f"{made.RULES}: the row '{line}' lacks the kind of cases that tells the rule, or the first case")
 
 
 def compare_entries(count):

@@ -243,6 +243,11 @@ def a_rule_without_a_row(copy):
     copy.change(path, "JSON = {\n", 'JSON = {\n    "json-anew": "Anew.",\n')
 
 
+def a_rule_that_no_case_tells(copy):
+    row = tree.read(made.RULES).split("\n")[3]
+    copy.change(made.RULES, row, row.split("\t")[0] + "\t\t")
+
+
 def an_example_that_no_page_names(copy):
     copy.write("examples/anew.json", "{}\n")
 

@@ -16,8 +16,9 @@ import sys
 import explained
 import tree
 
-MAN, FAULTS, EDITS = "man/rollout.1", "docs/FAULTS.md", "tests/edits.tsv"
+MAN, FAULTS, EDITS, RULES = "man/rollout.1", "docs/FAULTS.md", "tests/edits.tsv", "tests/rules.tsv"
 EDIT_COLUMNS = ["crate", "edit", "refused by", "goal of", "tried"]
+RULE_COLUMNS = ["rule", "cases of", "first"]
 PART = re.compile(r"(<!-- made by `make pages`: (\w+) -->\n)(.*?)(<!-- end of \2 -->\n)", re.S)
 MOST_EDITS, MOST_ROOMS = 80, 20
 
@@ -113,16 +114,17 @@ def _telling(by):
     return re.sub(r"\btests/\w+\.sh|(?<=the tests of )\w+", lambda found: f"`{found[0]}`", by)
 
 
-def made_rules(said):
-    """The rules of the slow program by the command whose cases tell each from the turned one, each with the first such case; a rule of which nobody said it stands in a
-    row without a command. What a rule says stands beside its name in the sources."""
-    first = {name: (cells[0].strip("`"), case) for cells in rows_of(said) for name, case in re.findall(r"`([\w-]+)` (\d+)", cells[1])}
-    told = {}
-    for name in tree.rules():
-        command, case = first.get(name, ("", ""))
-        told.setdefault(command, []).append(f"`{name}` {case}".strip())
-    rows = [(f"`{command}`" if command else "", ", ".join(told[command])) for command in sorted(told)]
-    return f"{len(tree.rules())} rules:\n\n" + table(("Cases of", "Turned rules, each with the first case that tells it"), rows)
+def made_rules():
+    """Each rule of the slow program with the kind of cases of which one tells it from the turned rule, and the first such case. What a rule says stands beside its name in the sources."""
+    known = {name: said for name, *said in (line.split("\t") for line in tree.read(RULES).split("\n")[1:] if line)}
+    lines = [RULE_COLUMNS, *([name, *known.get(name, ["", ""])] for name in tree.rules())]
+    return "".join("\t".join(cells) + "\n" for cells in lines)
+
+
+def made_rule_counts(_said):
+    """How many rules can be turned, and how many of them are told by cases of each kind."""
+    kinds = [line.split("\t")[1] for line in made_rules().split("\n")[1:] if line]
+    return f"{len(kinds)} rules: " + ", ".join(f"{kinds.count(kind)} in cases of `{kind}`" for kind in sorted({*kinds} - {""})) + ".\n"
 
 
 def made_chain(_said):
@@ -135,7 +137,7 @@ def made_chain(_said):
     return f"{len(chain)} of them: " + ", ".join(f"`{name}`" for name in chain) + ".\n"
 
 
-MAKERS = {"families": made_families, "crates": made_crates, "chain": made_chain, "edit_counts": made_edit_counts, "bugs": made_bugs, "rules": made_rules}
+MAKERS = {"families": made_families, "crates": made_crates, "chain": made_chain, "edit_counts": made_edit_counts, "bugs": made_bugs, "rule_counts": made_rule_counts}
 
 
 def statuses_of_page():
@@ -182,7 +184,7 @@ def made_pages():
     # A part is made once, from all that was said in parts of its name.
     bodies = {name: MAKERS[name](said[name]) for name in said if name in MAKERS}
     made = {path: PART.sub(lambda part: part[1] + "\n" + bodies.get(part[2], part[3]).strip("\n") + "\n\n" + part[4], text) for path, text in texts.items()}
-    return {**{path: text for path, text in made.items() if PART.search(text)}, MAN: made_man(), EDITS: made_edits(), **explained.made_files()}, parts
+    return {**{path: text for path, text in made.items() if PART.search(text)}, MAN: made_man(), EDITS: made_edits(), RULES: made_rules(), **explained.made_files()}, parts
 
 
 def main():
