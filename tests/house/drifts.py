@@ -125,7 +125,7 @@ def a_count_of_crates_off_by_one(copy):
 
 
 def a_count_of_bugs_off_by_one(copy):
-    path, body = page_of("bugs")
+    path, body = page_of("bug_counts")
     number = re.search(r"(\d+) bugs", body)[1]
     copy.change(path, f"{number} bugs", f"{int(number) - 1} bugs")
 
@@ -229,13 +229,12 @@ def a_bug_without_a_row(copy):
 
 
 def a_bug_that_nobody_tried(copy):
-    path, body = page_of("bugs")
-    copy.change(path, re.search(r"(?<=`): [^`|;]+(?=; `)", body)[0], "")
+    row = tree.read(made.BUGS).split("\n")[3]
+    copy.change(made.BUGS, row, row.rpartition("\t")[0] + "\t")
 
 
 def a_bugs_test_that_is_gone(copy):
-    path, body = page_of("bugs")
-    copy.change(path, re.search(r"^\| the tests of `\w+` \| `\w+`: (?:\w+::)+(\w+)", body, re.M)[1], "anew")
+    copy.change(made.BUGS, re.search(r"\tthe tests of \w+\t(?:\w+::)+(\w+)$", tree.read(made.BUGS), re.M)[1], "anew")
 
 
 def a_rule_without_a_row(copy):
