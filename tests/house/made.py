@@ -90,7 +90,7 @@ def made_edit_counts(_said):
     tried = [crate for (crate, _), (folder, _) in edits.items() if folder == "must-fail"]
     rest = len(edits) - len(tried)
     return (
-        f"{len(tried)} mutants are in `must-fail/` of {len(set(tried))} crates, of at most {MOST_EDITS} in {MOST_ROOMS}; {rest} more are in `edits/` of "
+        f"{len(tried)} mutants are in `must-fail/` of {len(set(tried))} crates (limits: {MOST_EDITS} mutants, {MOST_ROOMS} crates); {rest} more are in `edits/` of "
         f"{len({crate for (crate, _), (folder, _) in edits.items() if folder == 'edits'})} crates.\n"
     )
 
