@@ -73,6 +73,10 @@ def compare_made_parts(count):
     for line in pages[made.EDITS].split("\n")[1:-1]:
         cells = line.split("\t")
         count.row(all(cells) and re.fullmatch(r"\d{4}-\d\d-\d\d", cells[-1]), f"{made.EDITS}: the row of {cells[1]} in {cells[0]} lacks who refused it, the goal, or the date")
+    for line in pages[made.BUGS].split("\n")[1:-1]:
+        count.row(all(line.split("\t")), f"{made.BUGS}: the row of {line.split(chr(9))[0]} lacks what reports it, or the first row that does")
+    for line in pages[made.RULES].split("\n")[1:-1]:
+        count.row(re.fullmatch(r"[\w-]+\t\w+\t\d+", line), f"{made.RULES}: the row '{line}' lacks the kind of cases that tells the rule, or the first case")
 
 
 def compare_entries(count):
@@ -120,13 +124,13 @@ def compare_edits(count):
         script, crate = re.match(r"tests/\w+\.sh\b", by), re.match(r"the tests of (\w+)", by)
         told = script and stands(script[0]) or crate and stands(f"crates/{crate[1]}/src")
         count.row(told, f"tests/planted/{name}.edit: shown by '{by}', which isn't there")
-    for by, row in made.bugs_said(tree.read("tests/planted/README.md")).values():
-        crate, test = re.match(r"the tests of `(\w+)`", by), re.match(r"\w+(?:::\w+)*::(\w+)$", row)
+    for by, row in made.rows_of_file(made.BUGS).values():
+        crate, test = re.match(r"the tests of (\w+)", by), re.match(r"\w+(?:::\w+)*::(\w+)$", row)
         if crate:
-            count.row(test, f"tests/planted/README.md: the tests of {crate[1]} have no row '{row}'")
+            count.row(test, f"{made.BUGS}: the tests of {crate[1]} have no row '{row}'")
         if crate and test:
             holds = any(f"fn {test[1]}(" in tree.read(path) for path in tree.found(f"crates/{crate[1]}/src/**/*.rt"))
-            count.row(holds, f"tests/planted/README.md: {crate[1]} has no test {test[1]}")
+            count.row(holds, f"{made.BUGS}: {crate[1]} has no test {test[1]}")
     tried = [crate for (crate, _), (folder, _) in edits.items() if folder == "must-fail"]
     count.row(len(tried) <= made.MOST_EDITS, f"{len(tried)} edits in must-fail/, of at most {made.MOST_EDITS}")
     count.row(len(set(tried)) <= made.MOST_ROOMS, f"edits in must-fail/ of {len(set(tried))} crates, of at most {made.MOST_ROOMS}")
@@ -175,8 +179,8 @@ def is_defined(name, path):
 
 def compare_rules(count):
     """Each row of ARCHITECTURE's table of rules names files, and what it names beside them is defined there."""
-    rows = made.rows_of(section(tree.read("docs/ARCHITECTURE.md"), "Where a rule stands"))
-    count.row(rows, "docs/ARCHITECTURE.md: no table of where a rule stands")
+    rows = made.rows_of(section(tree.read("docs/ARCHITECTURE.md"), "Where to look"))
+    count.row(rows, "docs/ARCHITECTURE.md: no table of where to look")
     for rule, *cells in rows:
         count.row(len(cells) == 2 and any(files for cell in cells for files, _ in places_in(cell)), f"docs/ARCHITECTURE.md: no file for '{rule}'")
         for files, names in (place for cell in cells for place in places_in(cell)):

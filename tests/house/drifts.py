@@ -142,7 +142,7 @@ def a_count_of_crates_off_by_one(copy):
 
 
 def a_count_of_bugs_off_by_one(copy):
-    path, body = page_of("bugs")
+    path, body = page_of("bug_counts")
     number = re.search(r"(\d+) bugs", body)[1]
     copy.change(path, f"{number} bugs", f"{int(number) - 1} bugs")
 
@@ -160,13 +160,13 @@ def a_function_renamed(copy):
 
 
 def a_rule_that_stands_elsewhere(copy):
-    said = compare.section(tree.read("docs/ARCHITECTURE.md"), "Where a rule stands")
+    said = compare.section(tree.read("docs/ARCHITECTURE.md"), "Where to look")
     path, name = re.search(r"`(crates/\w+/specs/\w+\.antt)`: `(\w+)`", said).groups()
     copy.write(path, re.sub(rf"(?<!\w){name}(?!\w)", name + "Anew", copy.read(path)))
 
 
 def a_rule_without_a_file(copy):
-    said = compare.section(tree.read("docs/ARCHITECTURE.md"), "Where a rule stands")
+    said = compare.section(tree.read("docs/ARCHITECTURE.md"), "Where to look")
     rule = re.search(r"^\| ([^|]*) \| `crates/.*\n", said, re.M)
     copy.change("docs/ARCHITECTURE.md", rule[0], f"| {rule[1]} | | |\n")
 
@@ -200,7 +200,7 @@ def a_dependency_off(copy):
 def a_first_line_off(copy):
     root = tree.found("crates/*/src/lib.rt")[2]
     first = copy.read(root).split("\n")[0]
-    copy.change(root, first, first.rstrip(".") + " and more.")
+    copy.change(root, first, first.replace("//! ", "//! Anew, ", 1))
 
 
 def a_scripts_name_off(copy):
@@ -250,18 +250,22 @@ def a_bug_without_a_row(copy):
 
 
 def a_bug_that_nobody_tried(copy):
-    path, body = page_of("bugs")
-    copy.change(path, re.search(r"(?<=`): [^`|;]+(?=; `)", body)[0], "")
+    row = tree.read(made.BUGS).split("\n")[3]
+    copy.change(made.BUGS, row, row.rpartition("\t")[0] + "\t")
 
 
 def a_bugs_test_that_is_gone(copy):
-    path, body = page_of("bugs")
-    copy.change(path, re.search(r"^\| the tests of `\w+` \| `\w+`: (?:\w+::)+(\w+)", body, re.M)[1], "anew")
+    copy.change(made.BUGS, re.search(r"\tthe tests of \w+\t(?:\w+::)+(\w+)$", tree.read(made.BUGS), re.M)[1], "anew")
 
 
 def a_rule_without_a_row(copy):
     path = "tests/slow/rules_of_inputs.py"
     copy.change(path, "JSON = {\n", 'JSON = {\n    "json-anew": "Anew.",\n')
+
+
+def a_rule_that_no_case_tells(copy):
+    row = tree.read(made.RULES).split("\n")[3]
+    copy.change(made.RULES, row, row.split("\t")[0] + "\t\t")
 
 
 def an_example_that_no_page_names(copy):

@@ -4,8 +4,8 @@
     <!-- made by `make pages`: NAME -->
     <!-- end of NAME -->
 
-of a page, the exit statuses, faults and kinds of notes of the man page, which are those of FAULTS and NOTES, and what `rollout explain` prints of each of them, in files of the crate hints. Words that only somebody who tried it can say (who refused an edit, which row told a bug) are taken over from the rows that stand there, wherever in
-the made parts of the pages a row of that name is, so that they follow an edit to another crate. What nobody said yet is left empty, and tests/house.sh asks for it.
+of a page, the exit statuses, faults and kinds of notes of the man page, which are those of FAULTS and NOTES, and what `rollout explain` prints of each of them, in files of the crate hints; and the tables tests/edits.tsv, tests/bugs.tsv and tests/rules.tsv. Words that only somebody who tried it can say (who refused an edit, which row told a bug,
+which case tells a rule) are taken over from the rows of that name that stand there. What nobody said yet is left empty, and tests/house.sh asks for it.
 
     make pages
 """
@@ -16,8 +16,10 @@ import sys
 import explained
 import tree
 
-MAN, FAULTS, EDITS = "man/rollout.1", "docs/FAULTS.md", "tests/edits.tsv"
+MAN, FAULTS, EDITS, BUGS, RULES = "man/rollout.1", "docs/FAULTS.md", "tests/edits.tsv", "tests/bugs.tsv", "tests/rules.tsv"
 EDIT_COLUMNS = ["crate", "edit", "refused by", "goal of", "tried"]
+BUG_COLUMNS = ["bug", "shown by", "first row"]
+RULE_COLUMNS = ["rule", "cases of", "first"]
 PART = re.compile(r"(<!-- made by `make pages`: (\w+) -->\n)(.*?)(<!-- end of \2 -->\n)", re.S)
 MOST_EDITS, MOST_ROOMS = 80, 20
 
@@ -39,8 +41,15 @@ def rows_of(text):
     return [row for row in rows if row]
 
 
+def gist(name):
+    """What a crate is for, in short: the first sentence of its root, up to a colon; if the crate's name stands before the colon, what follows."""
+    first = re.split(r"(?<=\.)\s", tree.purpose(name))[0].rstrip(".")
+    head, _, rest = first.partition(": ")
+    return rest if head == name and rest else head
+
+
 def made_crates(_said):
-    """Each crate, lowest first, with the paragraph at its top: under the heading of its family, where crates.txt has families."""
+    """Each crate, lowest first, with what it is for in short: under the heading of its family, if crates.txt has families."""
     crates, families = tree.crates(), tree.families()
     placed = {name for own in families.values() for name in own}
     lists = {"": [name for name in crates if name not in placed], **{family: [name for name in crates if name in own] for family, own in families.items()}}
@@ -49,7 +58,7 @@ def made_crates(_said):
         if family:
             parts.append(f"### {family}")
         if own:
-            parts.append("\n".join(f"- `{name}`: {tree.purpose(name)}" for name in own))
+            parts.append("\n".join(f"- `{name}`: {gist(name)}" for name in own))
     return "\n\n".join(parts) + "\n"
 
 
@@ -81,41 +90,40 @@ def made_edit_counts(_said):
     tried = [crate for (crate, _), (folder, _) in edits.items() if folder == "must-fail"]
     rest = len(edits) - len(tried)
     return (
-        f"{len(tried)} edits stand in `must-fail/` of {len(set(tried))} crates, of at most {MOST_EDITS} in {MOST_ROOMS}; {rest} more stand in `edits/`, of "
+        f"{len(tried)} mutants are in `must-fail/` of {len(set(tried))} crates (limits: {MOST_EDITS} mutants, {MOST_ROOMS} crates); {rest} more are in `edits/` of "
         f"{len({crate for (crate, _), (folder, _) in edits.items() if folder == 'edits'})} crates.\n"
     )
 
 
-def bugs_said(text):
-    """What is said of each planted bug in the rows of these tables: by its name, what tells it and the first row that does."""
-    return {name: (cells[0], row) for cells in rows_of(text) for name, row in re.findall(r"`(\w+)`: (.*?)(?=; `\w+`(?:: |; |$)|$)", cells[1])}
+def rows_of_file(path):
+    """The rows of a table of tabs, by their first cell."""
+    return {first: rest for first, *rest in (line.split("\t") for line in tree.read(path).split("\n")[1:] if line)}
 
 
-def made_bugs(said):
-    """The planted bugs by what tells each, each with the first row that does; a bug of which nobody said it stands in a row that names nothing that tells it."""
-    first, told = bugs_said(said), {}
-    for name, (_, by) in tree.bugs().items():
-        row = first.get(name, ("", ""))[1]
-        told.setdefault(_telling(by) if row else "", []).append(f"`{name}`: {row}" if row else f"`{name}`")
-    rows = [(by, "; ".join(told[by])) for by in sorted(told)]
-    return f"{len(tree.bugs())} bugs:\n\n" + table(("Told by", "Bugs, each with the first row that tells it"), rows)
+def made_bugs():
+    """Each seeded bug with what has to report it and the first row that does; a bug of which nobody said it has an empty row."""
+    known = rows_of_file(BUGS)
+    lines = [BUG_COLUMNS, *([name, by, known.get(name, ["", ""])[1]] for name, (_, by) in tree.bugs().items())]
+    return "".join("\t".join(cells) + "\n" for cells in lines)
 
 
-def _telling(by):
-    """A script or a crate's tests, as a page names them."""
-    return re.sub(r"\btests/\w+\.sh|(?<=the tests of )\w+", lambda found: f"`{found[0]}`", by)
+def made_bug_counts(_said):
+    """How many bugs there are, and how many of them each script or crate has to report."""
+    told = [re.sub(r"\btests/\w+\.sh|(?<=the tests of )\w+", lambda found: f"`{found[0]}`", by) for _, by in tree.bugs().values()]
+    return f"{len(told)} bugs, of which these report: " + ", ".join(f"{by} {told.count(by)}" for by in sorted(set(told))) + ".\n"
 
 
-def made_rules(said):
-    """The rules of the slow program by the command whose cases tell each from the turned one, each with the first such case; a rule of which nobody said it stands in a
-    row without a command. What a rule says stands beside its name in the sources."""
-    first = {name: (cells[0].strip("`"), case) for cells in rows_of(said) for name, case in re.findall(r"`([\w-]+)` (\d+)", cells[1])}
-    told = {}
-    for name in tree.rules():
-        command, case = first.get(name, ("", ""))
-        told.setdefault(command, []).append(f"`{name}` {case}".strip())
-    rows = [(f"`{command}`" if command else "", ", ".join(told[command])) for command in sorted(told)]
-    return f"{len(tree.rules())} rules:\n\n" + table(("Cases of", "Turned rules, each with the first case that tells it"), rows)
+def made_rules():
+    """Each rule of the slow program with the kind of cases of which one tells it from the turned rule, and the first such case. What a rule says stands beside its name in the sources."""
+    known = rows_of_file(RULES)
+    lines = [RULE_COLUMNS, *([name, *known.get(name, ["", ""])] for name in tree.rules())]
+    return "".join("\t".join(cells) + "\n" for cells in lines)
+
+
+def made_rule_counts(_said):
+    """How many rules can be turned, and how many of them are told by cases of each kind."""
+    kinds = [line.split("\t")[1] for line in made_rules().split("\n")[1:] if line]
+    return f"{len(kinds)} rules: " + ", ".join(f"{kinds.count(kind)} in cases of `{kind}`" for kind in sorted({*kinds} - {""})) + ".\n"
 
 
 def made_chain(_said):
@@ -128,7 +136,7 @@ def made_chain(_said):
     return f"{len(chain)} of them: " + ", ".join(f"`{name}`" for name in chain) + ".\n"
 
 
-MAKERS = {"families": made_families, "crates": made_crates, "chain": made_chain, "edit_counts": made_edit_counts, "bugs": made_bugs, "rules": made_rules}
+MAKERS = {"families": made_families, "crates": made_crates, "chain": made_chain, "edit_counts": made_edit_counts, "bug_counts": made_bug_counts, "rule_counts": made_rule_counts}
 
 
 def statuses_of_page():
@@ -175,7 +183,7 @@ def made_pages():
     # A part is made once, from all that was said in parts of its name.
     bodies = {name: MAKERS[name](said[name]) for name in said if name in MAKERS}
     made = {path: PART.sub(lambda part: part[1] + "\n" + bodies.get(part[2], part[3]).strip("\n") + "\n\n" + part[4], text) for path, text in texts.items()}
-    return {**{path: text for path, text in made.items() if PART.search(text)}, MAN: made_man(), EDITS: made_edits(), **explained.made_files()}, parts
+    return {**{path: text for path, text in made.items() if PART.search(text)}, MAN: made_man(), EDITS: made_edits(), BUGS: made_bugs(), RULES: made_rules(), **explained.made_files()}, parts
 
 
 def main():
