@@ -8,7 +8,8 @@ pub mod RunLemmas
 pub mod DownLemmas
 pub mod LossLemmas
 pub mod TurnLemmas
-pub mod WrittenLemmas
+pub mod TakenLemmas
+pub mod KeptLemmas
+pub mod KeeperLemmas
 pub mod EndLemmas
 pub mod ResumeLemmas
-pub mod AddedLemmas

@@ -3,7 +3,6 @@ use Rattle.std.proofs.Common.{◌≡◌, ℕ, zero, suc, ◌+◌, ◌-◌, ◌�
 use Rattle.std.specs.Prelude.{is_some, if◌then◌else◌}
 use Rattle.std.specs.List.{list_all}
 use Rattle.std.proofs.lemmas.Bool.{and_from, and_parts, both_ways, cases_lt, lt-ltb, ltb-true, or_right}
-use Rattle.std.proofs.lemmas.List.Folds.{list_all-append}
 use Rattle.std.proofs.lemmas.List.FromFn.{get_or-map-range_with_len}
 use Rattle.domains.specs.FleetViews.{FleetView}
 use Rattle.fleet_numbers.specs.NumberLists.{has_number}
@@ -16,23 +15,20 @@ use Rattle.batch_plan.specs.Beginnings.{restart_status, restart_statuses}
 use Rattle.batch_plan.specs.Inside.{awaited}
 use Rattle.play_course.specs.declared.end.End.{End}
 use Rattle.play_course.specs.declared.end.End.TheVariants.{Finished}
-use Rattle.event_log.specs.Events.{Event, set_aside, opened, claimed, reported, passed, closed}
-use Rattle.event_log.specs.Logs.{next}
-use Rattle.event_log.specs.Rolls.{Roll}
-use Rattle.event_log.specs.States.{State, start_state}
+use Rattle.event_log.specs.States.{start_state}
 use Rattle.journal.specs.Entries.{Entry, again, resumed}
 use Rattle.journal.specs.Listings.{waiting_hosts}
 use Rattle.journal.specs.States.{JournalState, are_hosts, at_rest, follow, holds, is_between, is_finished, is_one_more, is_under_way, mended, moved, plays, plays_of, rested, resumes, stands, stood_up}
 use Rattle.keeping.specs.Keepings.{entry_of}
 use Rattle.keeping.specs.Laws.{IsSaidTruly, MayComeNext, Played, SaysTruly, end_of, last_of, run_entries, told}
 use Rattle.keeping.specs.Resumings.{GoesOn, ResumedRunsAreSaidTruly, ResumesCountWhoIsDown, UpdatedHostsStay, entry_again, goes_on_behind, resumed_start, told_again}
-use Rattle.keeping.specs.Written.{is_later}
 use Rattle.keeping.proofs.BeginLemmas.{all_wait, begins_so, begun_truly, restart_restarts}
 use Rattle.keeping.proofs.DownLemmas.{left_at, rested_at}
+use Rattle.keeping.proofs.KeptLemmas.{all_later, is_later, play_is_later}
 use Rattle.keeping.proofs.RunLemmas.{behind_first, behind_said, plays_begun, run_begins}
 use Rattle.keeping.proofs.StepLemmas.{one_leads}
 use Rattle.roll_run.specs.Journals as kept
-use Rattle.roll_run.specs.Journals.{JournalEntry, aside, beginning, closing, end_entries, ended, entries_at, heading, opening, refused}
+use Rattle.roll_run.specs.Journals.{JournalEntry, aside, beginning, closing, end_entries, ended, heading, opening, refused}
 
 -- once a play has begun, what there is to keep is as it is in any run
 same_entry : (inventory playbook mended : List ℕ) (entry : JournalEntry) → is_later entry ≡ true → entry_again mended false entry ≡ entry_of inventory playbook entry
@@ -62,31 +58,10 @@ told_alike inventory playbook mended (entry ∷ later) are =
     ∙ ap (λ (rest : List Entry). entry_of inventory playbook entry ∷ rest) (told_alike inventory playbook mended later both.1)
 
 -- no head stands behind the first entry of a play
-both_later : (first later : List JournalEntry) → list_all is_later first ≡ true → list_all is_later later ≡ true → list_all is_later (first ++ later) ≡ true
-both_later first later are and = list_all-append is_later first later ∙ and_from (list_all is_later first) (list_all is_later later) are and
-
-at_later : (roll : Roll) (behind : List Event) (state : State) (event : Event) → list_all is_later (entries_at roll behind state event) ≡ true
-at_later roll behind state (set_aside hosts) = refl
-at_later roll behind state (opened batch) = refl
-at_later roll behind state (claimed host step) = refl
-at_later roll behind state (reported host step ending) = refl
-at_later roll behind state (passed step) = refl
-at_later roll behind state closed = refl
-
-log_later : (roll : Roll) (behind : List Event) (state : State) (log : List Event) → list_all is_later (kept.entries roll behind state log) ≡ true
-log_later roll behind state [] = refl
-log_later roll behind state (event ∷ log) =
-    let now : List Event = behind ++ event ∷ [] in
-    both_later (entries_at roll behind state event) (kept.entries roll now (next roll state event) log) (at_later roll behind state event) (log_later roll now (next roll state event) log)
-
-own_later : (played : Played) (how : Option End) → list_all is_later (kept.entries played.roll [] (start_state played.roll) played.log ++ end_entries how) ≡ true
-own_later played None = both_later (kept.entries played.roll [] (start_state played.roll) played.log) [] (log_later played.roll [] (start_state played.roll) played.log) refl
-own_later played (Some end) = both_later (kept.entries played.roll [] (start_state played.roll) played.log) (ended end ∷ []) (log_later played.roll [] (start_state played.roll) played.log) refl
-
 behind_later : (fleet : FleetView) (played : Played) (later : List Played) → list_all is_later (behind_first fleet [] [] played later) ≡ true
-behind_later fleet played [] = own_later played None
+behind_later fleet played [] = play_is_later played.roll played.log None
 behind_later fleet played (second ∷ later) =
-    both_later (kept.entries played.roll [] (start_state played.roll) played.log ++ end_entries (Some Finished)) (run_entries second later) (own_later played (Some Finished))
+    all_later (kept.entries played.roll [] (start_state played.roll) played.log ++ end_entries (Some Finished)) (run_entries second later) (play_is_later played.roll played.log (Some Finished))
     (ap (list_all is_later) (run_begins fleet [] [] second later) ∙ behind_later fleet second later)
 
 -- the statuses with which a play goes on

@@ -51,7 +51,7 @@ Takes old new text false = Appends old new text ⊎ ((count : ℕ) × SendsFirst
 -- a journal that has all that was to be kept takes the text; another is left as it is, and one that is not made takes nothing
 abbrev pub Adds : {F : Type 0} → (F → Option (List ℕ)) → List ℕ → Option F → Bool → Option F → Bool → Type 0
 Adds contents text old false new whole = (new ≡ old) × (whole ≡ false)
-Adds contents text None true new whole = whole ≡ false
+Adds contents text None true new whole = (new ≡ None) × (whole ≡ false)
 Adds contents text (Some file) true new whole = Takes (contents file) (known_of contents new) text whole
 
 -- a journal is made, and takes the text, the first that is written to it

@@ -1,6 +1,5 @@
 -- What is kept of a run that goes on where another broke off, and what its journal says then.
 use Rattle.std.specs.Prelude.{◌≡◌, ◌≤◌, ◌+◌, ◌-◌, ℕ, Bool, true, false, ◌&&◌, not, Option, is_some, List, [], ◌∷◌, length, if◌then◌else◌}
-use Rattle.std.specs.Io.KnownBytes.{Appends}
 use Rattle.domains.specs.FleetViews.{FleetView}
 use Rattle.fleet_numbers.specs.NumberLists.{has_number}
 use Rattle.fleet_states.specs.declared.status.Status.{Status}
@@ -8,13 +7,13 @@ use Rattle.fleet_states.specs.declared.status.Status.TheVariants.{Updated}
 use Rattle.fleet_states.specs.Statuses.{changed, is_down, status_at}
 use Rattle.batch_plan.specs.Beginnings.{restart_statuses}
 use Rattle.batch_plan.specs.Inside.{awaited}
-use Rattle.journal.specs.Entries.{Entry, entries_text, entry_text}
+use Rattle.journal.specs.Entries.{Entry, entry_text}
 use Rattle.journal.specs.Entries as entries
 use Rattle.journal.specs.Listings.{outcomes_of, waiting_hosts}
 use Rattle.journal.specs.States.{JournalState, are_hosts, is_under_way, plays_of, rested, resumes}
 use Rattle.keeping.specs.Keepings.{Takes}
 use Rattle.keeping.specs.Laws.{ComeInTurn, IsSaidTruly, Played, end_of, last_of, run_entries}
-use Rattle.roll_run.specs.Journals.{HasKept, JournalEntry, aside, beginning, closing, ended, heading, opening, refused}
+use Rattle.roll_run.specs.Journals.{JournalEntry, aside, beginning, closing, ended, heading, opening, refused}
 
 -- the entry of the journal of a run that goes on, with these hosts up by now: the first play to begin may be the one in which it broke off
 abbrev pub entry_again : List ℕ → Bool → JournalEntry → Entry
@@ -88,9 +87,3 @@ abbrev pub UpdatedHostsStay : Type 0
 UpdatedHostsStay =
     (target mended : List ℕ) (statuses : List Status) (host : ℕ) → status_at statuses host ≡ Updated
     → status_at (resumed_start true target (rested mended statuses)) host ≡ Updated
-
--- a keeper that goes on, has kept these entries and tells that all was kept has added their text to its journal, and nothing else
-abbrev pub AddedIsWritten : {K F : Type 0} → (F → Option (List ℕ)) → (K → F) → (K → Bool) → (K → List ℕ) → (K → Bool) → (K → K → FleetView → JournalEntry → Type 0) → K → K → Type 0
-AddedIsWritten contents file whole mended going keeps before after =
-    (fleet : FleetView) (entries : List JournalEntry) → HasKept keeps fleet before after entries → whole after ≡ true
-    → Appends (contents (file before)) (contents (file after)) (entries_text fleet (told_again (mended before) (going before) entries))

@@ -1,17 +1,10 @@
 //! What the journal of a run says of it, whoever kept it.
-ghost use Rattle.std.specs.Prelude.{◌≡◌, IfSome, is_some, true};
 ghost use Rattle.keeping.specs.Ends.{EndsAreSaidTruly};
-ghost use Rattle.keeping.specs.Keepings.{IsHeld};
 ghost use Rattle.keeping.specs.Laws.{PlaysAreSaidTruly, RunsAreSaidTruly};
 ghost use Rattle.keeping.specs.Losses.{CutJournalsLoseNobody, NothingIsLost, OneAheadLosesNobody};
 ghost use Rattle.keeping.specs.Turns.{SafeRollsAreUnderWay};
-ghost use Rattle.domains.specs.Ids.{host_numbers};
-ghost use Rattle.keeping.specs.Resumings.{AddedIsWritten, AddsAgain, ResumedRunsAreSaidTruly, ResumesCountWhoIsDown, UpdatedHostsStay};
-ghost use Rattle.keeping.specs.Written.{KeptIsWritten};
+ghost use Rattle.keeping.specs.Resumings.{ResumedRunsAreSaidTruly, ResumesCountWhoIsDown, UpdatedHostsStay};
 
-use crate::continuer::Continuer;
-use crate::disk::{Disk, Shelf};
-use crate::keeper::Keeper;
 use roll_core::Runner;
 
 /// At whatever moment of a play, the journal's lines up to there are lines that a reader takes, and tell where the play stands: the hosts of the open batch
@@ -51,12 +44,6 @@ pub fn safe_rolls_are_under_way<R: Runner>(runner: &R)
     ensures { SafeRollsAreUnderWay (R.may runner.now) }
 {}
 
-/// From one state of a keeper to another, where it has kept a head and other entries and tells that all was kept: their lines are the text of its journal.
-pub fn kept_is_written<S: Shelf>(before: &Keeper<'_, S>, after: &Keeper<'_, S>)
-    ensures { KeptIsWritten S.Journal.contents (λ keeper file. S.is_new file keeper.name.now) (λ keeper. keeper.inventory.now) (λ keeper. keeper.playbook.now) (λ keeper. keeper.file) (λ keeper. keeper.is_whole)
-        (λ entry keeper. IsHeld (λ file. (is_some file ≡ true) × IfSome file S.Journal.is_on_disk) entry keeper.file keeper.is_whole) before.now after.now }
-{}
-
 /// At whatever moment of a run that goes on where its journal says that it broke off, the journal with the entries of both says truly where it stands.
 pub fn resumed_runs_are_said_truly()
     ensures { ResumedRunsAreSaidTruly }
@@ -70,12 +57,4 @@ pub fn resumes_count_who_is_down()
 /// Who was updated in the play that goes on stays so, and no batch of it is for them.
 pub fn updated_hosts_stay()
     ensures { UpdatedHostsStay }
-{}
-
-/// From one state of a keeper that goes on to another, where it tells that all was kept: the text of what it kept was added to its journal.
-pub fn added_is_written<F: Disk>(before: &Continuer<'_, F>, after: &Continuer<'_, F>)
-    ensures { AddedIsWritten F.contents (λ keeper. keeper.file) (λ keeper. keeper.is_whole) (λ keeper. host_numbers keeper.mended.now) (λ keeper. keeper.goes_on)
-        (λ before after fleet entry. AddsAgain F.contents (host_numbers before.mended.now) before.goes_on fleet entry before.file before.is_whole after.file after.is_whole after.goes_on × (after.mended ≡ before.mended)
-        × IsHeld F.is_on_disk entry after.file after.is_whole)
-        before.now after.now }
 {}

@@ -15,7 +15,7 @@ pub use disk::{Disk, Shelf};
 pub use holds::Holds;
 pub use keeper::Keeper;
 pub use laws::{
-    added_is_written, cut_journals_lose_nobody, ends_are_said_truly, kept_is_written,
-    nothing_is_lost, one_ahead_loses_nobody, plays_are_said_truly, resumed_runs_are_said_truly,
-    resumes_count_who_is_down, runs_are_said_truly, safe_rolls_are_under_way, updated_hosts_stay,
+    cut_journals_lose_nobody, ends_are_said_truly, nothing_is_lost, one_ahead_loses_nobody,
+    plays_are_said_truly, resumed_runs_are_said_truly, resumes_count_who_is_down,
+    runs_are_said_truly, safe_rolls_are_under_way, updated_hosts_stay,
 };

@@ -35,18 +35,18 @@ pub helps_where_asked : (is_wanted may : Bool) (help : Option (List ℕ)) → Ma
 helps_where_asked is_wanted may None helps asked = tt
 helps_where_asked is_wanted may (Some help) helps asked = (asked helps.0, helps.1)
 
-module _ (may : Work → Ending → Type 0) (is_watched : Bool) (sources : Sources) (words_given : List Word) (line : declared_line.Line) (input_old input_new out_old out_new : Option (List ℕ)) (reporting : Reporting) (result : Result Status Fault) (logs : List (List Event)) where
+module _ (journals : Wish → Sources → Source → Source → Option (List ℕ) → Option (List ℕ) → Result Status Fault → List (List Event) → Type 0) (may : Work → Ending → Type 0) (is_watched : Bool) (sources : Sources) (words_given : List Word) (line : declared_line.Line) (input_old input_new out_old out_new : Option (List ℕ)) (reporting : Reporting) (result : Result Status Fault) (logs : List (List Event)) where
   -- what was done is what the words ask for
   pub follows_line : (asks : Bool) (wish : Wish) → words.Says (plain words_given) line → wish ≡ wished words_given → asks ≡ is_some wish.stop_file
       → reporting.form ≡ form_of wish.json → MayHelp (is_watched || wish.verbose) reporting.help
-      → Acts may asks wish sources line input_old input_new out_old out_new result logs → FollowsLine may is_watched sources words_given input_old input_new out_old out_new reporting result logs
+      → Acts journals may asks wish sources line input_old input_new out_old out_new result logs → FollowsLine journals may is_watched sources words_given input_old input_new out_old out_new reporting result logs
   follows_line asks wish says of_wish of_asks of_form helps acts = record {
     form_is = subst (λ (w : Wish). reporting.form ≡ form_of w.json) of_wish of_form;
     help_is = subst (λ (w : Wish). MayHelp (is_watched || w.verbose) reporting.help) of_wish helps;
     line = line;
     says = says;
-    acts = subst (λ (w : Wish). Acts may (is_some w.stop_file) w sources line input_old input_new out_old out_new result logs) of_wish
-        (subst (λ (b : Bool). Acts may b wish sources line input_old input_new out_old out_new result logs) of_asks acts);
+    acts = subst (λ (w : Wish). Acts journals may (is_some w.stop_file) w sources line input_old input_new out_old out_new result logs) of_wish
+        (subst (λ (b : Bool). Acts journals may b wish sources line input_old input_new out_old out_new result logs) of_asks acts);
   }
 
 -- how a plan ends behind which a picture was drawn or not

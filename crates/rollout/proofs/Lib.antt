@@ -7,6 +7,7 @@ pub mod Rolling
 pub mod RowLemmas
 pub mod Resuming
 pub mod Tables
+mod Journals
 mod Starting
 pub mod States
 pub mod Outlooks

@@ -151,10 +151,10 @@ module _ (form : Form) (may : Work → Ending → Type 0) where
     either_is_safe asks None wish inventory playbook forks result logs = begun_is_safe wish.strict asks wish.mended inventory playbook forks result logs
     either_is_safe asks (Some journal) wish inventory playbook forks result logs = resumes_are_safe asks inventory playbook (resume_wish journal wish) forks result logs
 
-module _ (may : Work → Ending → Type 0) (is_watched : Bool) where
+module _ (journals : Wish → Sources → Source → Source → Option (List ℕ) → Option (List ℕ) → Result Status Fault → List (List Event) → Type 0) (may : Work → Ending → Type 0) (is_watched : Bool) where
   module _ (given : Known (List Word)) (sources : Sources) (input_old input_new out_old out_new : Option (List ℕ)) where
     lines_are_safe : (args : List Word) → Gives given args → (asked : Line) → words.Says (plain (drop 1 args)) asked → (asks : Bool) (wish : Wish) (result : Result Status Fault) (logs : List (List Event))
-        → wish ≡ wished (drop 1 args) → Does may asks wish sources asked input_old input_new out_old out_new result logs → StartsSafely may given sources input_old input_new logs
+        → wish ≡ wished (drop 1 args) → Does journals may asks wish sources asked input_old input_new out_old out_new result logs → StartsSafely may given sources input_old input_new logs
     lines_are_safe args gives (line.Limits inventory) says asks wish result logs is does = inl does.1
     lines_are_safe args gives (line.Plan inventory playbook) says asks wish result logs is does = inl does.1
     lines_are_safe args gives (line.Rehearse inventory playbook) says asks wish result logs is does = inl does.1
@@ -163,7 +163,7 @@ module _ (may : Work → Ending → Type 0) (is_watched : Bool) where
     lines_are_safe args gives (line.Lint inventory playbook) says asks wish result logs is does = inl does.1
     lines_are_safe args gives (line.Explain word) says asks wish result logs is does = inl does.2
     lines_are_safe args gives (line.Print message) says asks wish result logs is does = inl does.2
-    lines_are_safe args gives (line.Run inventory playbook forks) says asks wish result logs is does = by (either_is_safe (form_of wish.json) may given sources input_old input_new out_old out_new asks wish.from wish inventory playbook forks result logs does)
+    lines_are_safe args gives (line.Run inventory playbook forks) says asks wish result logs is does = by (either_is_safe (form_of wish.json) may given sources input_old input_new out_old out_new asks wish.from wish inventory playbook forks result logs does.0)
       where
         by : (logs ≡ []) ⊎ AreSafeOrAgain may wish.from wish sources inventory playbook forks input_old input_new logs → StartsSafely may given sources input_old input_new logs
         by (inl none) = inl none
@@ -178,15 +178,15 @@ module _ (may : Work → Ending → Type 0) (is_watched : Bool) where
         })
 
     acts_are_safe : (args : List Word) → Gives given args → (asked : Line) → words.Says (plain (drop 1 args)) asked → (asks : Bool) (wish : Wish) (result : Result Status Fault) (logs : List (List Event))
-        → wish ≡ wished (drop 1 args) → Acts may asks wish sources asked input_old input_new out_old out_new result logs → StartsSafely may given sources input_old input_new logs
+        → wish ≡ wished (drop 1 args) → Acts journals may asks wish sources asked input_old input_new out_old out_new result logs → StartsSafely may given sources input_old input_new logs
     acts_are_safe args gives asked says asks wish result logs is (inl does) = lines_are_safe args gives asked says asks wish result logs is does
     acts_are_safe args gives asked says asks wish result logs is (inr overwrites) = inl overwrites.none
 
-    pub performs_safely : (reporting : Reporting) (result : Result Status Fault) (logs : List (List Event)) → Performs may is_watched given sources input_old input_new out_old out_new reporting result logs → StartsSafely may given sources input_old input_new logs
+    pub performs_safely : (reporting : Reporting) (result : Result Status Fault) (logs : List (List Event)) → Performs journals may is_watched given sources input_old input_new out_old out_new reporting result logs → StartsSafely may given sources input_old input_new logs
     performs_safely reporting result logs (inr lacks) = inl lacks.none
     performs_safely reporting result logs (inl takes) = by takes.words_given takes.behind_name takes.attempts
       where
-        by : (behind : List Word) → behind ≡ drop 1 takes.args → Attempts may is_watched sources behind input_old input_new out_old out_new reporting result logs → StartsSafely may given sources input_old input_new logs
+        by : (behind : List Word) → behind ≡ drop 1 takes.args → Attempts journals may is_watched sources behind input_old input_new out_old out_new reporting result logs → StartsSafely may given sources input_old input_new logs
         by behind are (inr refuses) = inl refuses.none
         by behind are (inl follows) =
             acts_are_safe takes.args takes.gives follows.line (subst (λ (w : List Word). words.Says (plain w) follows.line) are follows.says)

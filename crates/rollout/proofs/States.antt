@@ -5,7 +5,7 @@ use Rattle.bounded_io.specs.Reading.{max_input}
 use Rattle.command_line.specs.declared.command.Source.{Source}
 use Rattle.command_line.specs.declared.command.Source.TheVariants.{StandardInput, File}
 use Rattle.rollout.specs.Inputs.{IsTextOf, ReadsBoth}
-use Rattle.rollout.specs.StateTexts.{RefusesTexts, TellsState, TellsTexts}
+use Rattle.rollout.specs.StateTexts.{IsAsked, RefusesTexts, TellsState, TellsTexts}
 use Rattle.rollout.specs.Systems.{Sources}
 use Rattle.rollout.specs.declared.fault.Fault.{Fault}
 use Rattle.rollout.specs.declared.status.Status.{Status}
@@ -16,9 +16,9 @@ text_within sources StandardInput old new text is = is.within
 text_within sources (File name) old new text is = is.0.whole.within
 
 pub TellsState-of_texts : (takes_others goes_on : Bool) (sources : Sources) (inventory journal : Source) (input_old input_new out_old out_new : Option (List ℕ)) (first second : List ℕ) (result : Result Status Fault)
-    → ReadsBoth sources inventory journal input_old input_new first second → IfOk result (TellsTexts first second takes_others goes_on out_old out_new) → IfErr result (RefusesTexts first second takes_others goes_on out_old out_new)
+    → ReadsBoth sources inventory journal input_old input_new first second → IsAsked sources.known journal goes_on → IfOk result (TellsTexts first second takes_others goes_on out_old out_new) → IfErr result (RefusesTexts first second takes_others goes_on out_old out_new)
     → TellsState takes_others sources inventory journal input_old input_new out_old out_new result
-TellsState-of_texts takes_others goes_on sources inventory journal input_old input_new out_old out_new first second (Ok status) texts tells refuses =
-    record { first = first; second = second; texts = texts; goes_on = goes_on; tells = tells }
-TellsState-of_texts takes_others goes_on sources inventory journal input_old input_new out_old out_new first second (Err fault) texts tells refuses =
-    inr (record { first = first; second = second; texts = texts; goes_on = goes_on; refuses = refuses })
+TellsState-of_texts takes_others goes_on sources inventory journal input_old input_new out_old out_new first second (Ok status) texts asked tells refuses =
+    record { first = first; second = second; texts = texts; goes_on = goes_on; asked = asked; tells = tells }
+TellsState-of_texts takes_others goes_on sources inventory journal input_old input_new out_old out_new first second (Err fault) texts asked tells refuses =
+    inr (record { first = first; second = second; texts = texts; goes_on = goes_on; asked = asked; refuses = refuses })

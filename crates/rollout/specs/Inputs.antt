@@ -23,7 +23,7 @@ pub record IsTextOfFile (known : Known (List ℕ)) (text : List ℕ) : Type 0 wh
 -- the text is that of the source: all that standard input had, or all that the file of that name has
 abbrev pub IsTextOf : Sources → Source → Option (List ℕ) → Option (List ℕ) → List ℕ → Type 0
 IsTextOf sources StandardInput old new text = IsWholeInput old new text
-IsTextOf sources (File name) old new text = IsTextOfFile (sources.files (string_bytes name)) text × Keeps old new
+IsTextOf sources (File name) old new text = IsTextOfFile (sources.known.files (string_bytes name)) text × Keeps old new
 
 -- what an error of this kind makes of a file that can't be opened
 abbrev pub IsFaultOfKind : ErrorKind → InputFault → Type 0
@@ -51,7 +51,7 @@ IsFaultOfFile known fault = IsClosed known fault ⊎ BreaksFile known fault
 -- how much of the source was read when it was found unreadable
 abbrev pub BreaksSource : Sources → Source → Option (List ℕ) → Option (List ℕ) → InputFault → Type 0
 BreaksSource sources StandardInput old new fault = BreaksInput sources.is_reliable old new fault
-BreaksSource sources (File name) old new fault = IsFaultOfFile (sources.files (string_bytes name)) fault × Keeps old new
+BreaksSource sources (File name) old new fault = IsFaultOfFile (sources.known.files (string_bytes name)) fault × Keeps old new
 
 -- the source could not be read whole, and the fault names it
 abbrev pub IsUnreadable : Sources → Source → Option (List ℕ) → Option (List ℕ) → Fault → Type 0

@@ -13,6 +13,7 @@ pub mod Groups
 pub mod Inputs
 pub mod Jsons
 pub mod JournalFaults
+pub mod Kept
 pub mod LimitsText
 pub mod LintFaults
 pub mod Lists

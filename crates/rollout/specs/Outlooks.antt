@@ -29,11 +29,11 @@ question inventory playbook journal wish =
 -- the inputs were read, and behind them the journal
 pub record ReadsAll (sources : Sources) (inventory playbook : Source) (name : List ℕ) (old new : Option (List ℕ)) (first second third : List ℕ) : Type 0 where
   pub texts : ReadsBoth sources inventory playbook old new first second
-  pub journal : IsTextOfFile (sources.files name) third
+  pub journal : IsTextOfFile (sources.known.files name) third
 
 -- an input can't be read, or the journal
 abbrev pub LacksAny : Sources → Source → Source → List ℕ → Option (List ℕ) → Option (List ℕ) → Fault → Type 0
-LacksAny sources inventory playbook name old new fault = LacksInput sources inventory playbook old new fault ⊎ LacksJournal sources.files name fault
+LacksAny sources inventory playbook name old new fault = LacksInput sources inventory playbook old new fault ⊎ LacksJournal sources.known.files name fault
 
 -- the plan, or the course where one is asked for, went out, and the status tells of its end
 pub record PrintsPlan (asked : Question) (old new : Option (List ℕ)) (status : Status) : Type 0 where
@@ -124,10 +124,10 @@ RehearsesFrom strict sources inventory playbook wish input_old input_new out_old
 -- the inventory was read, and behind it the journal
 pub record ReadsWithJournal (sources : Sources) (inventory : Source) (name : List ℕ) (old new : Option (List ℕ)) (first second : List ℕ) : Type 0 where
   pub text : IsTextOf sources inventory old new first
-  pub journal : IsTextOfFile (sources.files name) second
+  pub journal : IsTextOfFile (sources.known.files name) second
 
 abbrev pub LacksOne : Sources → Source → List ℕ → Option (List ℕ) → Option (List ℕ) → Fault → Type 0
-LacksOne sources inventory name old new fault = IsUnreadable sources inventory old new fault ⊎ LacksJournal sources.files name fault
+LacksOne sources inventory name old new fault = IsUnreadable sources inventory old new fault ⊎ LacksJournal sources.known.files name fault
 
 -- the table of where the run stands went out
 pub record ShowsStanding (sources : Sources) (inventory : Source) (wish : ResumeWish) (input_old input_new out_old out_new : Option (List ℕ)) (status : Status) : Type 0 where

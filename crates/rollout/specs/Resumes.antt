@@ -98,14 +98,14 @@ pub record GoesOn (form : Form) (may : Work → Ending → Type 0) (sources : So
   pub second : List ℕ
   pub third : List ℕ
   pub texts : ReadsBoth sources inventory playbook input_old input_new first second
-  pub journal : IsTextOfFile (sources.files wish.journal) third
+  pub journal : IsTextOfFile (sources.known.files wish.journal) third
   pub goes : GoesOnBy form may (IsWished first second third wish) (IsNoneWished first second third wish) forks out_old out_new result logs
 
 -- an input, or the journal, can't be read
 pub record LacksAny (sources : Sources) (inventory playbook : Source) (wish : ResumeWish) (input_old input_new out_old out_new : Option (List ℕ)) (result : Result Status Fault) (logs : List (List Event)) : Type 0 where
   pub fault : Fault
   pub is : result ≡ Err fault
-  pub why : LacksInput sources inventory playbook input_old input_new fault ⊎ LacksJournal sources.files wish.journal fault
+  pub why : LacksInput sources inventory playbook input_old input_new fault ⊎ LacksJournal sources.known.files wish.journal fault
   pub unwritten : Keeps out_old out_new
   pub none : logs ≡ []
 
@@ -117,7 +117,7 @@ ResumesInputs form may sources inventory playbook wish forks input_old input_new
 
 -- the ends of children are not ignored, and the run went on, by as many workers as were asked for or fewer; that it was stopped is told only where it may be
 pub record ResumesOn (form : Form) (may : Work → Ending → Type 0) (asks : Bool) (sources : Sources) (inventory playbook : Source) (wish : ResumeWish) (forks : ℕ) (input_old input_new out_old out_new : Option (List ℕ)) (result : Result Status Fault) (logs : List (List Event)) : Type 0 where
-  pub kept : IsAnswerOf sources.files false
+  pub kept : IsAnswerOf sources.known.files false
   pub workers : ℕ
   pub some : 0 < workers
   pub few : workers ≤ forks
@@ -154,7 +154,7 @@ MendsInputs form may sources inventory playbook names forks input_old input_new 
 
 -- the ends of children are not ignored, and the run began, by as many workers as were asked for or fewer; that it was stopped is told only where it may be
 pub record MendsOn (form : Form) (may : Work → Ending → Type 0) (asks : Bool) (sources : Sources) (inventory playbook : Source) (names : List ℕ) (forks : ℕ) (input_old input_new out_old out_new : Option (List ℕ)) (result : Result Status Fault) (logs : List (List Event)) : Type 0 where
-  pub kept : IsAnswerOf sources.files false
+  pub kept : IsAnswerOf sources.known.files false
   pub workers : ℕ
   pub some : 0 < workers
   pub few : workers ≤ forks
@@ -207,7 +207,7 @@ pub record AreSafeAgain (may : Work → Ending → Type 0) (sources : Sources) (
   pub second : List ℕ
   pub third : List ℕ
   pub texts : ReadsBoth sources inventory playbook input_old input_new first second
-  pub journal : IsTextOfFile (sources.files wish.journal) third
+  pub journal : IsTextOfFile (sources.known.files wish.journal) third
   pub resumption : Resumption
   pub wished : IsWished first second third wish resumption
   pub workers : ℕ

@@ -15,7 +15,7 @@ use Rattle.rollout.specs.Inputs.{LacksInput, ReadsBoth}
 use Rattle.rollout.specs.RollFaults.{fault_of}
 use Rattle.rollout.specs.Status.{status_of_run}
 use Rattle.rollout.specs.Strictness.{FindsNames, RefusesNames}
-use Rattle.rollout.specs.Systems.{Files, Sources}
+use Rattle.rollout.specs.Systems.{IsSomewhere, KnownFiles, Sources}
 use Rattle.rollout.specs.declared.fault.Fault.{Fault}
 use Rattle.rollout.specs.declared.fault.Fault.TheVariants.{ChildrenIgnored, Input, JournalThere, JournalWrite, Locked, Memory, Stopped}
 use Rattle.rollout.specs.declared.status.Status.{Status}
@@ -93,17 +93,17 @@ IsUnlockable Memory = Unit {0}
 IsUnlockable fault = ⊥
 
 -- why a run is refused before anything is read: the ends of children are ignored, or memory was wanting to look; or its journal is there already; or another run holds the lock, or its file can't be had
-abbrev pub IsRefusedBy : Files → Fault → Type 0
-IsRefusedBy files ChildrenIgnored = IsAnswerOf files true
-IsRefusedBy files Memory = Unit {0}
-IsRefusedBy files JournalThere = Unit {0}
-IsRefusedBy files Locked = Unit {0}
-IsRefusedBy files fault = IsUnlockable fault
+abbrev pub IsRefusedBy : KnownFiles → Fault → Type 0
+IsRefusedBy known ChildrenIgnored = IsAnswerOf known.files true
+IsRefusedBy known Memory = Unit {0}
+IsRefusedBy known JournalThere = IsSomewhere known.there
+IsRefusedBy known Locked = IsSomewhere known.held
+IsRefusedBy known fault = IsUnlockable fault
 
 -- a run is refused: nothing was read, run or written
 pub record RefusesToRoll (sources : Sources) (input_old input_new out_old out_new : Option (List ℕ)) (result : Result Status Fault) (logs : List (List Event)) : Type 0 where
   pub fault : Fault
-  pub because : IsRefusedBy sources.files fault
+  pub because : IsRefusedBy sources.known fault
   pub is : result ≡ Err fault
   pub unread : Keeps input_old input_new
   pub unwritten : Keeps out_old out_new
@@ -111,7 +111,7 @@ pub record RefusesToRoll (sources : Sources) (input_old input_new out_old out_ne
 
 -- the ends of children are not ignored, and the inputs were run, by as many workers as were asked for or fewer; that a run was stopped is told only where it may be
 pub record RollsOn (form : Form) (strict : Bool) (may : Work → Ending → Type 0) (asks : Bool) (sources : Sources) (inventory playbook : Source) (forks : ℕ) (input_old input_new out_old out_new : Option (List ℕ)) (result : Result Status Fault) (logs : List (List Event)) : Type 0 where
-  pub kept : IsAnswerOf sources.files false
+  pub kept : IsAnswerOf sources.known.files false
   pub workers : ℕ
   pub some : 0 < workers
   pub few : workers ≤ forks

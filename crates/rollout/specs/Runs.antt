@@ -75,27 +75,6 @@ RehearsesBy None wish sources inventory playbook input_old input_new out_old out
 RehearsesBy (Some journal) wish sources inventory playbook input_old input_new out_old out_new result =
     RehearsesFrom wish.strict sources inventory playbook (resume_wish journal wish) input_old input_new out_old out_new result
 
--- what a line asks for was done, with what is asked for beside it, or its fault is true; and these are the logs of all that was started: `run` alone starts anything
-abbrev pub Does : (Work → Ending → Type 0) → Bool → Wish → Sources → declared_line.Line → Option (List ℕ) → Option (List ℕ) → Option (List ℕ) → Option (List ℕ) → Result Status Fault → List (List Event) → Type 0
-Does may asks wish sources (Limits inventory) input_old input_new out_old out_new result logs =
-    TabulatesBy wish.from wish sources inventory input_old input_new out_old out_new result × (logs ≡ [])
-Does may asks wish sources (Plan inventory playbook) input_old input_new out_old out_new result logs =
-    PlansFrom wish.from wish sources inventory playbook input_old input_new out_old out_new result × (logs ≡ [])
-Does may asks wish sources (Run inventory playbook forks) input_old input_new out_old out_new result logs =
-    RollsBy may asks wish sources inventory playbook forks input_old input_new out_old out_new result logs
-Does may asks wish sources (Rehearse inventory playbook) input_old input_new out_old out_new result logs =
-    RehearsesBy wish.from wish sources inventory playbook input_old input_new out_old out_new result × (logs ≡ [])
-Does may asks wish sources (State inventory journal) input_old input_new out_old out_new result logs =
-    TellsState wish.others sources inventory journal input_old input_new out_old out_new result × (logs ≡ [])
-Does may asks wish sources (Check inventory playbook plan) input_old input_new out_old out_new result logs =
-    Checks sources inventory playbook plan input_old input_new out_old out_new result × (logs ≡ [])
-Does may asks wish sources (Lint inventory playbook) input_old input_new out_old out_new result logs =
-    Lints wish.allowed sources inventory playbook input_old input_new out_old out_new result × (logs ≡ [])
-Does may asks wish sources (Explain word) input_old input_new out_old out_new result logs =
-    Keeps input_old input_new × Explains (string_bytes word) out_old out_new result × (logs ≡ [])
-Does may asks wish sources (Print message) input_old input_new out_old out_new result logs =
-    Keeps input_old input_new × Prints (messages.text_of message) out_old out_new result × (logs ≡ [])
-
 -- the name of a file is refused, and nothing was done
 pub record RefusesFile (wish : Wish) (input_old input_new out_old out_new : Option (List ℕ)) (result : Result Status Fault) (logs : List (List Event)) : Type 0 where
   pub fault : Fault
@@ -104,19 +83,6 @@ pub record RefusesFile (wish : Wish) (input_old input_new out_old out_new : Opti
   pub unread : Keeps input_old input_new
   pub unwritten : Keeps out_old out_new
   pub none : logs ≡ []
-
-abbrev pub Acts : (Work → Ending → Type 0) → Bool → Wish → Sources → declared_line.Line → Option (List ℕ) → Option (List ℕ) → Option (List ℕ) → Option (List ℕ) → Result Status Fault → List (List Event) → Type 0
-Acts may asks wish sources line input_old input_new out_old out_new result logs =
-    Does may asks wish sources line input_old input_new out_old out_new result logs ⊎ RefusesFile wish input_old input_new out_old out_new result logs
-
--- the words without their options are a line, and what it asks for was done as they ask: whether a run tells of itself while it goes on makes no difference, and it may be stopped where they
--- name a file for that. A fault is reported in the form that they ask for, and what helps is said behind it only where they ask for more than its line, or somebody watches
-pub record FollowsLine (may : Work → Ending → Type 0) (is_watched : Bool) (sources : Sources) (words_given : List Word) (input_old input_new out_old out_new : Option (List ℕ)) (reporting : Reporting) (result : Result Status Fault) (logs : List (List Event)) : Type 0 where
-  pub form_is : reporting.form ≡ form_of (wished words_given).json
-  pub help_is : MayHelp (is_watched || (wished words_given).verbose) reporting.help
-  pub line : declared_line.Line
-  pub says : words.Says (plain words_given) line
-  pub acts : Acts may (is_some (wished words_given).stop_file) (wished words_given) sources line input_old input_new out_old out_new result logs
 
 -- the words are no line, and nothing was read or written
 pub record RefusesWords (words_given : List Word) (input_old input_new out_old out_new : Option (List ℕ)) (reporting : Reporting) (result : Result Status Fault) (logs : List (List Event)) : Type 0 where
@@ -127,18 +93,6 @@ pub record RefusesWords (words_given : List Word) (input_old input_new out_old o
   pub unread : Keeps input_old input_new
   pub unwritten : Keeps out_old out_new
   pub none : logs ≡ []
-
-abbrev pub Attempts : (Work → Ending → Type 0) → Bool → Sources → List Word → Option (List ℕ) → Option (List ℕ) → Option (List ℕ) → Option (List ℕ) → Reporting → Result Status Fault → List (List Event) → Type 0
-Attempts may is_watched sources words_given input_old input_new out_old out_new reporting result logs =
-    FollowsLine may is_watched sources words_given input_old input_new out_old out_new reporting result logs ⊎ RefusesWords words_given input_old input_new out_old out_new reporting result logs
-
--- the system gave the words; the first is the program's name
-pub record TakesWords (may : Work → Ending → Type 0) (is_watched : Bool) (given : Known (List Word)) (sources : Sources) (input_old input_new out_old out_new : Option (List ℕ)) (reporting : Reporting) (result : Result Status Fault) (logs : List (List Event)) : Type 0 where
-  pub args : List Word
-  pub gives : Gives given args
-  pub words_given : List Word
-  pub behind_name : words_given ≡ drop 1 args
-  pub attempts : Attempts may is_watched sources words_given input_old input_new out_old out_new reporting result logs
 
 -- what an error of this kind makes of words that the system doesn't give: words that are no text make the line a bad one
 abbrev pub IsFaultOfWords : ErrorKind → Fault → Type 0
@@ -159,17 +113,65 @@ pub record LacksWords (given : Known (List Word)) (input_old input_new out_old o
   pub unwritten : Keeps out_old out_new
   pub none : logs ≡ []
 
-abbrev pub Performs : (Work → Ending → Type 0) → Bool → Known (List Word) → Sources → Option (List ℕ) → Option (List ℕ) → Option (List ℕ) → Option (List ℕ) → Reporting → Result Status Fault → List (List Event) → Type 0
-Performs may is_watched given sources input_old input_new out_old out_new reporting result logs =
-    TakesWords may is_watched given sources input_old input_new out_old out_new reporting result logs ⊎ LacksWords given input_old input_new out_old out_new reporting result logs
+-- what the journal holds of a run that is asked for so
+module _ (Journals : Wish → Sources → Source → Source → Option (List ℕ) → Option (List ℕ) → Result Status Fault → List (List Event) → Type 0) where
+  -- what a line asks for was done, with what is asked for beside it, or its fault is true; and these are the logs of all that was started: `run` alone starts anything
+  abbrev pub Does : (Work → Ending → Type 0) → Bool → Wish → Sources → declared_line.Line → Option (List ℕ) → Option (List ℕ) → Option (List ℕ) → Option (List ℕ) → Result Status Fault → List (List Event) → Type 0
+  Does may asks wish sources (Limits inventory) input_old input_new out_old out_new result logs =
+      TabulatesBy wish.from wish sources inventory input_old input_new out_old out_new result × (logs ≡ [])
+  Does may asks wish sources (Plan inventory playbook) input_old input_new out_old out_new result logs =
+      PlansFrom wish.from wish sources inventory playbook input_old input_new out_old out_new result × (logs ≡ [])
+  Does may asks wish sources (Run inventory playbook forks) input_old input_new out_old out_new result logs =
+      RollsBy may asks wish sources inventory playbook forks input_old input_new out_old out_new result logs × Journals wish sources inventory playbook input_old input_new result logs
+  Does may asks wish sources (Rehearse inventory playbook) input_old input_new out_old out_new result logs =
+      RehearsesBy wish.from wish sources inventory playbook input_old input_new out_old out_new result × (logs ≡ [])
+  Does may asks wish sources (State inventory journal) input_old input_new out_old out_new result logs =
+      TellsState wish.others sources inventory journal input_old input_new out_old out_new result × (logs ≡ [])
+  Does may asks wish sources (Check inventory playbook plan) input_old input_new out_old out_new result logs =
+      Checks sources inventory playbook plan input_old input_new out_old out_new result × (logs ≡ [])
+  Does may asks wish sources (Lint inventory playbook) input_old input_new out_old out_new result logs =
+      Lints wish.allowed sources inventory playbook input_old input_new out_old out_new result × (logs ≡ [])
+  Does may asks wish sources (Explain word) input_old input_new out_old out_new result logs =
+      Keeps input_old input_new × Explains (string_bytes word) out_old out_new result × (logs ≡ [])
+  Does may asks wish sources (Print message) input_old input_new out_old out_new result logs =
+      Keeps input_old input_new × Prints (messages.text_of message) out_old out_new result × (logs ≡ [])
 
--- a whole run: what was done, what was reported, the exit status, and the logs of all that was started
-pub record Runs (may : Work → Ending → Type 0) (is_watched : Bool) (given : Known (List Word)) (sources : Sources) (input_old input_new out_old out_new errors_old errors_new : Option (List ℕ)) (status : ℕ) (logs : List (List Event)) : Type 0 where
-  pub outcome : Result Status Fault
-  pub reporting : Reporting
-  pub performs : Performs may is_watched given sources input_old input_new out_old out_new reporting outcome logs
-  pub reports : Reports reporting outcome errors_old errors_new
-  pub ends : status ≡ code_of (status_of outcome)
+  abbrev pub Acts : (Work → Ending → Type 0) → Bool → Wish → Sources → declared_line.Line → Option (List ℕ) → Option (List ℕ) → Option (List ℕ) → Option (List ℕ) → Result Status Fault → List (List Event) → Type 0
+  Acts may asks wish sources line input_old input_new out_old out_new result logs =
+      Does may asks wish sources line input_old input_new out_old out_new result logs ⊎ RefusesFile wish input_old input_new out_old out_new result logs
+
+  -- the words without their options are a line, and what it asks for was done as they ask: whether a run tells of itself while it goes on makes no difference, and it may be stopped where they
+  -- name a file for that. A fault is reported in the form that they ask for, and what helps is said behind it only where they ask for more than its line, or somebody watches
+  pub record FollowsLine (may : Work → Ending → Type 0) (is_watched : Bool) (sources : Sources) (words_given : List Word) (input_old input_new out_old out_new : Option (List ℕ)) (reporting : Reporting) (result : Result Status Fault) (logs : List (List Event)) : Type 0 where
+    pub form_is : reporting.form ≡ form_of (wished words_given).json
+    pub help_is : MayHelp (is_watched || (wished words_given).verbose) reporting.help
+    pub line : declared_line.Line
+    pub says : words.Says (plain words_given) line
+    pub acts : Acts may (is_some (wished words_given).stop_file) (wished words_given) sources line input_old input_new out_old out_new result logs
+
+  abbrev pub Attempts : (Work → Ending → Type 0) → Bool → Sources → List Word → Option (List ℕ) → Option (List ℕ) → Option (List ℕ) → Option (List ℕ) → Reporting → Result Status Fault → List (List Event) → Type 0
+  Attempts may is_watched sources words_given input_old input_new out_old out_new reporting result logs =
+      FollowsLine may is_watched sources words_given input_old input_new out_old out_new reporting result logs ⊎ RefusesWords words_given input_old input_new out_old out_new reporting result logs
+
+  -- the system gave the words; the first is the program's name
+  pub record TakesWords (may : Work → Ending → Type 0) (is_watched : Bool) (given : Known (List Word)) (sources : Sources) (input_old input_new out_old out_new : Option (List ℕ)) (reporting : Reporting) (result : Result Status Fault) (logs : List (List Event)) : Type 0 where
+    pub args : List Word
+    pub gives : Gives given args
+    pub words_given : List Word
+    pub behind_name : words_given ≡ drop 1 args
+    pub attempts : Attempts may is_watched sources words_given input_old input_new out_old out_new reporting result logs
+
+  abbrev pub Performs : (Work → Ending → Type 0) → Bool → Known (List Word) → Sources → Option (List ℕ) → Option (List ℕ) → Option (List ℕ) → Option (List ℕ) → Reporting → Result Status Fault → List (List Event) → Type 0
+  Performs may is_watched given sources input_old input_new out_old out_new reporting result logs =
+      TakesWords may is_watched given sources input_old input_new out_old out_new reporting result logs ⊎ LacksWords given input_old input_new out_old out_new reporting result logs
+
+  -- a whole run: what was done, what was reported, the exit status, and the logs of all that was started
+  pub record Runs (may : Work → Ending → Type 0) (is_watched : Bool) (given : Known (List Word)) (sources : Sources) (input_old input_new out_old out_new errors_old errors_new : Option (List ℕ)) (status : ℕ) (logs : List (List Event)) : Type 0 where
+    pub outcome : Result Status Fault
+    pub reporting : Reporting
+    pub performs : Performs may is_watched given sources input_old input_new out_old out_new reporting outcome logs
+    pub reports : Reports reporting outcome errors_old errors_new
+    pub ends : status ≡ code_of (status_of outcome)
 
 -- these are the logs of the rolls of a run that begins, or of one in which hosts are up by now
 abbrev pub AreSafeBegun : (Work → Ending → Type 0) → List ℕ → Sources → Source → Source → ℕ → Option (List ℕ) → Option (List ℕ) → List (List Event) → Type 0

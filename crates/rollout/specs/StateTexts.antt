@@ -1,8 +1,9 @@
 -- What the command `state` does with an inventory and a journal.
-use Rattle.std.specs.Prelude.{◌≡◌, ◌⊎◌, ℕ, Bool, List, Option, None, Some, Result, Ok, Err, if◌then◌else◌}
+use Rattle.std.specs.Prelude.{◌≡◌, ◌⊎◌, ℕ, Bool, false, List, Option, None, Some, Result, Ok, Err, if◌then◌else◌, string_bytes}
 use Rattle.std.specs.Io.KnownBytes.{Appends, Keeps}
 use Rattle.bounded_io.specs.Sending.{SendsFirst}
 use Rattle.command_line.specs.declared.command.Source.{Source}
+use Rattle.command_line.specs.declared.command.Source.TheVariants.{StandardInput, File}
 use Rattle.domains.specs.FleetViews.{FleetView}
 use Rattle.fleet_states.specs.declared.status.Status as hosts
 use Rattle.play_course.specs.declared.end.End.{End}
@@ -16,7 +17,7 @@ use Rattle.rollout.specs.Inputs.{LacksInput, ReadsBoth}
 use Rattle.rollout.specs.ResumeFaults.{fault_of}
 use Rattle.rollout.specs.LimitsText.{IsFleetIn, IsUnread}
 use Rattle.rollout.specs.Status.{status_of_run}
-use Rattle.rollout.specs.Systems.{Sources}
+use Rattle.rollout.specs.Systems.{IsTold, KnownFiles, Sources}
 use Rattle.rollout.specs.declared.fault.Fault.{Fault}
 use Rattle.rollout.specs.declared.fault.Fault.TheVariants.{BadJournal, OtherInputs, Write, Memory}
 use Rattle.rollout.specs.declared.status.Status.{Status}
@@ -80,12 +81,18 @@ pub record RefusesJournal (inventory text : List ℕ) (takes_others goes_on : Bo
 abbrev pub RefusesTexts : List ℕ → List ℕ → Bool → Bool → Option (List ℕ) → Option (List ℕ) → Fault → Type 0
 RefusesTexts inventory text takes_others goes_on old new fault = (IsUnread inventory fault × Keeps old new) ⊎ RefusesJournal inventory text takes_others goes_on old new fault
 
+-- whether the journal's lock is held by another; a run whose journal is standard input doesn't go on
+abbrev pub IsAsked : KnownFiles → Source → Bool → Type 0
+IsAsked known StandardInput goes_on = goes_on ≡ false
+IsAsked known (File name) goes_on = IsTold (known.held (string_bytes name)) goes_on
+
 -- both inputs were read, and where the run stands was told
 pub record HoldsState (takes_others : Bool) (sources : Sources) (inventory journal : Source) (input_old input_new out_old out_new : Option (List ℕ)) (status : Status) : Type 0 where
   pub first : List ℕ
   pub second : List ℕ
   pub texts : ReadsBoth sources inventory journal input_old input_new first second
   pub goes_on : Bool
+  pub asked : IsAsked sources.known journal goes_on
   pub tells : TellsTexts first second takes_others goes_on out_old out_new status
 
 -- both inputs were read, and the fault is true of one of them
@@ -94,6 +101,7 @@ pub record EndsState (takes_others : Bool) (sources : Sources) (inventory journa
   pub second : List ℕ
   pub texts : ReadsBoth sources inventory journal input_old input_new first second
   pub goes_on : Bool
+  pub asked : IsAsked sources.known journal goes_on
   pub refuses : RefusesTexts first second takes_others goes_on out_old out_new fault
 
 -- the command `state`

@@ -10,13 +10,31 @@ Known T = Option (Result T ErrorKind)
 abbrev pub Files : Type 0
 Files = List ℕ → Known (List ℕ)
 
--- what is known of what the program reads: its files, and whether no read of standard input fails
-pub record Sources : Type 0 where
+-- what is known of files: their bytes; whether there is one of a name; and whether another program holds its lock
+pub record KnownFiles : Type 0 where
   pub files : Files
+  pub there : List ℕ → Option Bool
+  pub held : List ℕ → Option Bool
+
+abbrev pub nothing_known : KnownFiles
+nothing_known = record { files = λ _. None; there = λ _. None; held = λ _. None }
+
+-- what is known of what the program reads: files, and whether no read of standard input fails
+pub record Sources : Type 0 where
+  pub known : KnownFiles
   pub is_reliable : Bool
 
-abbrev pub sources_of : Files → Bool → Sources
-sources_of files is_reliable = record { files = files; is_reliable = is_reliable }
+abbrev pub sources_of : KnownFiles → Bool → Sources
+sources_of known is_reliable = record { known = known; is_reliable = is_reliable }
+
+-- the answer is the one that is known, if one is
+abbrev pub IsTold : Option Bool → Bool → Type 0
+IsTold None answer = ⊤
+IsTold (Some known) answer = answer ≡ known
+
+-- of some name the answer was that it is so
+abbrev pub IsSomewhere : (List ℕ → Option Bool) → Type 0
+IsSomewhere known = (name : List ℕ) × IsTold (known name) true
 
 -- the request was answered so
 abbrev pub Gives : {T : Type 0} → Known T → T → Type 0

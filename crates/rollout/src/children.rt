@@ -17,7 +17,7 @@ const STATUS: &str = "/proc/self/status";
 /// Whether this process ignores the ends of its children: then the system keeps none of them, and no program's end can be had. Where the
 /// system doesn't say, it is taken not to.
 fn are_children_ignored<S: System>(system: &S, alloc: Global) -> Result<bool, Fault>
-    ensures ok { IfOk result (IsAnswerOf (S.files system.now)) }
+    ensures ok { IfOk result (IsAnswerOf (S.known system.now).files) }
     ensures err { IfErr result (λ fault. fault ≡ Memory) }
 {
     match read_file(system, alloc, STATUS) {
@@ -29,8 +29,8 @@ fn are_children_ignored<S: System>(system: &S, alloc: Global) -> Result<bool, Fa
 
 /// Why a run is refused before anything is read.
 pub fn refusal<S: System>(system: &S, alloc: Global) -> Option<Fault>
-    ensures some { IfSome result (IsRefusedBy (S.files system.now)) }
-    ensures none { result ≡ None → IsAnswerOf (S.files system.now) false }
+    ensures some { IfSome result (IsRefusedBy (S.known system.now)) }
+    ensures none { result ≡ None → IsAnswerOf (S.known system.now).files false }
 {
     match are_children_ignored(system, alloc) {
         Ok(true) => Some(Fault::ChildrenIgnored),

@@ -28,11 +28,11 @@ fn read_given<S: System, I: Input>(
     source: Source,
     input: &mut I,
 ) -> Result<Vec<u8>, Fault>
-    requires { IsGiven (S.files system.now) source given }
+    requires { IsGiven (S.known system.now).files source given }
     ensures ok { IfOk result (λ text.
-        IsTextOf (sources_of (S.files system.now) (I.is_reliable input.old)) source (I.remaining input.old) (I.remaining input.new) text.items) }
+        IsTextOf (sources_of (S.known system.now) (I.is_reliable input.old)) source (I.remaining input.old) (I.remaining input.new) text.items) }
     ensures err { IfErr result
-        (IsUnreadable (sources_of (S.files system.now) (I.is_reliable input.old)) source (I.remaining input.old) (I.remaining input.new)) }
+        (IsUnreadable (sources_of (S.known system.now) (I.is_reliable input.old)) source (I.remaining input.old) (I.remaining input.new)) }
     ensures stays { I.is_reliable input.new ≡ I.is_reliable input.old }
 {
     match &source {
@@ -53,10 +53,10 @@ pub fn read_both<S: System, I: Input>(
     playbook: Source,
     input: &mut I,
 ) -> Result<(Vec<u8>, Vec<u8>), Fault>
-    ensures ok { IfOk result (λ texts. ReadsBoth (sources_of (S.files system.now) (I.is_reliable input.old)) inventory playbook
+    ensures ok { IfOk result (λ texts. ReadsBoth (sources_of (S.known system.now) (I.is_reliable input.old)) inventory playbook
         (I.remaining input.old) (I.remaining input.new) texts.0.items texts.1.items) }
     ensures err { IfErr result
-        (LacksInput (sources_of (S.files system.now) (I.is_reliable input.old)) inventory playbook (I.remaining input.old) (I.remaining input.new)) }
+        (LacksInput (sources_of (S.known system.now) (I.is_reliable input.old)) inventory playbook (I.remaining input.old) (I.remaining input.new)) }
     ensures stays { I.is_reliable input.new ≡ I.is_reliable input.old }
 {
     read_behind(system, alloc, Given::Nothing, inventory, playbook, input)
@@ -71,11 +71,11 @@ pub(crate) fn read_behind<S: System, I: Input>(
     playbook: Source,
     input: &mut I,
 ) -> Result<(Vec<u8>, Vec<u8>), Fault>
-    requires { IsGiven (S.files system.now) inventory given }
-    ensures ok { IfOk result (λ texts. ReadsBoth (sources_of (S.files system.now) (I.is_reliable input.old)) inventory playbook
+    requires { IsGiven (S.known system.now).files inventory given }
+    ensures ok { IfOk result (λ texts. ReadsBoth (sources_of (S.known system.now) (I.is_reliable input.old)) inventory playbook
         (I.remaining input.old) (I.remaining input.new) texts.0.items texts.1.items) }
     ensures err { IfErr result
-        (LacksInput (sources_of (S.files system.now) (I.is_reliable input.old)) inventory playbook (I.remaining input.old) (I.remaining input.new)) }
+        (LacksInput (sources_of (S.known system.now) (I.is_reliable input.old)) inventory playbook (I.remaining input.old) (I.remaining input.new)) }
     ensures stays { I.is_reliable input.new ≡ I.is_reliable input.old }
 {
     let inventory = match read_given(system, alloc, given, inventory, input) {
@@ -101,10 +101,10 @@ pub fn read_three<S: System, I: Input>(
     plan: Source,
     input: &mut I,
 ) -> Result<(Vec<u8>, Vec<u8>, Vec<u8>), Fault>
-    ensures ok { IfOk result (λ texts. ReadsThree (sources_of (S.files system.now) (I.is_reliable input.old)) inventory playbook plan
+    ensures ok { IfOk result (λ texts. ReadsThree (sources_of (S.known system.now) (I.is_reliable input.old)) inventory playbook plan
         (I.remaining input.old) (I.remaining input.new) texts.0.items texts.1.items texts.2.items) }
     ensures err { IfErr result
-        (LacksOne (sources_of (S.files system.now) (I.is_reliable input.old)) inventory playbook plan (I.remaining input.old) (I.remaining input.new)) }
+        (LacksOne (sources_of (S.known system.now) (I.is_reliable input.old)) inventory playbook plan (I.remaining input.old) (I.remaining input.new)) }
     ensures stays { I.is_reliable input.new ≡ I.is_reliable input.old }
 {
     let (inventory, playbook) = match read_both(system, alloc, inventory, playbook, input) {

@@ -53,8 +53,8 @@ pub(crate) fn hold_lock<S: System, T: Watch>(
     inventory: &Source,
     locking: Locking<'_>,
 ) -> Result<Held<S::Lock>, Fault>
-    ensures ok { IfOk result (λ held. IsGiven (S.files system.now) inventory.now held.given) }
-    ensures err { IfErr result (IsRefusedBy (S.files system.now)) }
+    ensures ok { IfOk result (λ held. IsGiven (S.known system.now).files inventory.now held.given) }
+    ensures err { IfErr result (IsRefusedBy (S.known system.now)) }
 {
     match locking {
         Locking::Inventory => hold_inventory(system, alloc, watch, inventory),
@@ -69,9 +69,9 @@ fn hold_inventory<S: System, T: Watch>(
     watch: &mut T,
     inventory: &Source,
 ) -> Result<Held<S::Lock>, Fault>
-    ensures ok { IfOk result (λ held. IsGiven (S.files system.now) inventory.now held.given) }
+    ensures ok { IfOk result (λ held. IsGiven (S.known system.now).files inventory.now held.given) }
     ensures read { IfOk result (λ held. is_some held.lock ≡ true → IsRead held.given) }
-    ensures err { IfErr result (IsRefusedBy (S.files system.now)) }
+    ensures err { IfErr result (IsRefusedBy (S.known system.now)) }
 {
     let name = match inventory {
         Source::File(name) => name.as_str(),
@@ -123,7 +123,7 @@ fn without_lock<L, T: Watch>(watch: &mut T) -> Held<L>
 /// Takes the lock of a file of its own, which has to be had.
 fn hold_made<S: System>(system: &S, alloc: Global, name: &str) -> Result<Held<S::Lock>, Fault>
     ensures ok { IfOk result (λ held. held.given ≡ Given.Nothing) }
-    ensures err { IfErr result (IsRefusedBy (S.files system.now)) }
+    ensures err { IfErr result (IsRefusedBy (S.known system.now)) }
 {
     match system.lock_made(name) {
         Ok(Some(lock)) => Ok(held_unread(Some(lock))),
@@ -174,7 +174,7 @@ pub(crate) fn hold_journal<S: System>(
     inventory: &Source,
     journal: &str,
 ) -> Result<Option<S::Lock>, Fault>
-    ensures { IfErr result (IsRefusedBy (S.files system.now)) }
+    ensures { IfErr result (IsRefusedBy (S.known system.now)) }
 {
     if is_of(system, inventory, journal) {
         return Ok(None);

@@ -4,6 +4,7 @@ ghost use Rattle.std.specs.Process.{exit_status};
 ghost use Rattle.roll_run.specs.Histories.{Gains};
 ghost use Rattle.command_line.specs.Wishes.{wish_as};
 ghost use Rattle.rollout.specs.Endings.{reporting_as};
+ghost use Rattle.rollout.specs.Kept.{KeepsJournal};
 ghost use Rattle.rollout.specs.Runs.{Acts, Attempts, Does, Performs, Runs, StartsSafely};
 ghost use Rattle.rollout.specs.Systems.{sources_of};
 ghost use Rattle.rollout.specs.Watching.{IsWatchedAs};
@@ -55,9 +56,9 @@ pub fn run<
     errors: &mut E,
     history: History,
 ) -> (ExitCode, History)
-    ensures runs { Gains history result.1 (Runs (R.may runner.now) (S.may_watch system.now) (S.words system.now) (sources_of (S.files system.now) (I.is_reliable input.old))
+    ensures runs { Gains history result.1 (Runs (KeepsJournal S.Journal.contents S.is_new S.is_cut) (R.may runner.now) (S.may_watch system.now) (S.words system.now) (sources_of (S.known system.now) (I.is_reliable input.old))
         (I.remaining input.old) (I.remaining input.new) (O.contents out.old) (O.contents out.new) (E.contents errors.old) (E.contents errors.new) (exit_status result.0)) }
-    ensures safe { Gains history result.1 (StartsSafely (R.may runner.now) (S.words system.now) (sources_of (S.files system.now) (I.is_reliable input.old)) (I.remaining input.old) (I.remaining input.new)) }
+    ensures safe { Gains history result.1 (StartsSafely (R.may runner.now) (S.words system.now) (sources_of (S.known system.now) (I.is_reliable input.old)) (I.remaining input.old) (I.remaining input.new)) }
 {
     let (ended, history) = perform(system, rt, alloc, runner, notes, tell, input, out, history);
     let Ended { outcome, reporting } = ended;
@@ -83,7 +84,7 @@ fn perform<
     out: &mut O,
     history: History,
 ) -> (Ended, History)
-    ensures { Gains history result.1 (Performs (R.may runner.now) (S.may_watch system.now) (S.words system.now) (sources_of (S.files system.now) (I.is_reliable input.old))
+    ensures { Gains history result.1 (Performs (KeepsJournal S.Journal.contents S.is_new S.is_cut) (R.may runner.now) (S.may_watch system.now) (S.words system.now) (sources_of (S.known system.now) (I.is_reliable input.old))
         (I.remaining input.old) (I.remaining input.new) (O.contents out.old) (O.contents out.new) (reporting_as result.0.reporting) result.0.outcome) }
 {
     match system.args() {
@@ -124,7 +125,7 @@ fn attempt<
     out: &mut O,
     history: History,
 ) -> (Ended, History)
-    ensures { Gains history result.1 (Attempts (R.may runner.now) (S.may_watch system.now) (sources_of (S.files system.now) (I.is_reliable input.old)) (map string_bytes words.now)
+    ensures { Gains history result.1 (Attempts (KeepsJournal S.Journal.contents S.is_new S.is_cut) (R.may runner.now) (S.may_watch system.now) (sources_of (S.known system.now) (I.is_reliable input.old)) (map string_bytes words.now)
         (I.remaining input.old) (I.remaining input.new) (O.contents out.old) (O.contents out.new) (reporting_as result.0.reporting) result.0.outcome) }
 {
     match request_of(alloc, words) {
@@ -196,7 +197,7 @@ fn act<
     out: &mut O,
     history: History,
 ) -> (Result<Status, Fault>, History)
-    ensures { Gains history result.1 (Acts (R.may runner.now) (A.asks coordinator.now.attend.now) (wish_as wishes.now) (sources_of (S.files system.now) (I.is_reliable input.old)) line
+    ensures { Gains history result.1 (Acts (KeepsJournal S.Journal.contents S.is_new S.is_cut) (R.may runner.now) (A.asks coordinator.now.attend.now) (wish_as wishes.now) (sources_of (S.known system.now) (I.is_reliable input.old)) line
         (I.remaining input.old) (I.remaining input.new) (O.contents out.old) (O.contents out.new) result.0) }
 {
     match refused_name(system, coordinator.alloc, &line, wishes) {
@@ -236,7 +237,7 @@ fn follow<
     out: &mut O,
     history: History,
 ) -> (Result<Status, Fault>, History)
-    ensures { Gains history result.1 (Does (R.may runner.now) (A.asks coordinator.now.attend.now) (wish_as wishes.now) (sources_of (S.files system.now) (I.is_reliable input.old)) line
+    ensures { Gains history result.1 (Does (KeepsJournal S.Journal.contents S.is_new S.is_cut) (R.may runner.now) (A.asks coordinator.now.attend.now) (wish_as wishes.now) (sources_of (S.known system.now) (I.is_reliable input.old)) line
         (I.remaining input.old) (I.remaining input.new) (O.contents out.old) (O.contents out.new) result.0) }
 {
     let alloc = coordinator.alloc;

@@ -20,9 +20,9 @@ pub fn read_source<S: System, I: Input>(
     input: &mut I,
 ) -> Result<Vec<u8>, Fault>
     ensures ok { IfOk result (λ text.
-        IsTextOf (sources_of (S.files system.now) (I.is_reliable input.old)) source (I.remaining input.old) (I.remaining input.new) text.items) }
+        IsTextOf (sources_of (S.known system.now) (I.is_reliable input.old)) source (I.remaining input.old) (I.remaining input.new) text.items) }
     ensures err { IfErr result
-        (IsUnreadable (sources_of (S.files system.now) (I.is_reliable input.old)) source (I.remaining input.old) (I.remaining input.new)) }
+        (IsUnreadable (sources_of (S.known system.now) (I.is_reliable input.old)) source (I.remaining input.old) (I.remaining input.new)) }
     ensures stays { I.is_reliable input.new ≡ I.is_reliable input.old }
 {
     match &source {
@@ -39,8 +39,8 @@ pub fn read_source<S: System, I: Input>(
 
 /// Reads the file of this name, whatever the name is.
 pub fn read_file<S: System>(system: &S, alloc: Global, name: &str) -> Result<Vec<u8>, InputFault>
-    ensures ok { IfOk result (λ text. IsTextOfFile (S.files system.now name.now) text.items) }
-    ensures err { IfErr result (IsFaultOfFile (S.files system.now name.now)) }
+    ensures ok { IfOk result (λ text. IsTextOfFile ((S.known system.now).files name.now) text.items) }
+    ensures err { IfErr result (IsFaultOfFile ((S.known system.now).files name.now)) }
 {
     match system.open(name) {
         Ok(mut file) => read_input(alloc, &mut file),

@@ -1,8 +1,8 @@
 //! What the system gives the program: the words of its line, and files; and whoever types its commands.
-ghost use Rattle.std.specs.Prelude.{◌≡◌, Bool, List, ℕ, Option, None, IfOk, IfErr, IfSome, map, string_bytes, true};
+ghost use Rattle.std.specs.Prelude.{◌≡◌, Bool, List, ℕ, Option, None, IfOk, IfErr, IfSome, is_none, map, string_bytes, true};
 ghost use Rattle.std.specs.IoError.{error_kind};
 ghost use Rattle.command_line.specs.Wishes.{wish_as};
-ghost use Rattle.rollout.specs.Systems.{Fails, Files, Gives, Known, Opens};
+ghost use Rattle.rollout.specs.Systems.{Fails, Gives, IsTold, Known, KnownFiles, Opens, nothing_known};
 ghost use Rattle.rollout.specs.Watching.{IsSeenSo};
 
 use crate::folder::folder_of;
@@ -26,7 +26,7 @@ pub trait System: Prompt + Shelf {
 
     ghost words: { Self → Known (List (List ℕ)) } = { λ _. None };
 
-    ghost files: { Self → Files } = { λ _ _. None };
+    ghost known: { Self → KnownFiles } = { λ _. nothing_known };
 
     /// The words of the line, the program's name first.
     fn args(&self) -> io::Result<Vec<String>>
@@ -34,8 +34,8 @@ pub trait System: Prompt + Shelf {
         ensures err { IfErr result (λ error. Fails (words self.now) (error_kind error)) };
 
     fn open(&self, name: &str) -> io::Result<Self::File>
-        ensures ok { IfOk result (λ file. Opens (files self.now name.now) (Self.File.remaining file) (Self.File.is_reliable file)) }
-        ensures err { IfErr result (λ error. Fails (files self.now name.now) (error_kind error)) };
+        ensures ok { IfOk result (λ file. Opens ((known self.now).files name.now) (Self.File.remaining file) (Self.File.is_reliable file)) }
+        ensures err { IfErr result (λ error. Fails ((known self.now).files name.now) (error_kind error)) };
 
     /// A file that is written anew.
     type Output: Write + Drop;
@@ -48,19 +48,23 @@ pub trait System: Prompt + Shelf {
 
     /// The lock of the file of this name; none where another holds it, and an error where the file has no lock.
     fn lock(&self, name: &str) -> io::Result<Option<Self::Lock>>
-        ensures { IfOk result (λ lock. IfSome lock (λ lock. Opens (files self.now name.now) (Self.Lock.remaining lock) (Self.Lock.is_reliable lock))) };
+        ensures read { IfOk result (λ lock. IfSome lock (λ lock. Opens ((known self.now).files name.now) (Self.Lock.remaining lock) (Self.Lock.is_reliable lock))) }
+        ensures held { IfOk result (λ lock. IsTold ((known self.now).held name.now) (is_none lock)) };
 
     /// The same of a file that is made if it isn't there.
-    fn lock_made(&self, name: &str) -> io::Result<Option<Self::Lock>>;
+    fn lock_made(&self, name: &str) -> io::Result<Option<Self::Lock>>
+        ensures { IfOk result (λ lock. IsTold ((known self.now).held name.now) (is_none lock)) };
 
     /// Whether the name by which the file was locked still leads to it.
     fn is_still(&self, lock: &Self::Lock) -> bool;
 
     /// Whether another program holds the lock of the file of this name.
-    fn is_held(&self, name: &str) -> bool;
+    fn is_held(&self, name: &str) -> bool
+        ensures { IsTold ((known self.now).held name.now) result };
 
     /// Whether there is a file of this name now, of whatever kind.
-    fn is_there(&self, name: &str) -> bool;
+    fn is_there(&self, name: &str) -> bool
+        ensures { IsTold ((known self.now).there name.now) result };
 
     /// Whether a file of this name would be seen if it was made: its folder is there and can be searched.
     fn may_appear(&self, name: &str) -> bool;

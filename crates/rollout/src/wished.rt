@@ -1,7 +1,8 @@
 //! What a line of `limits`, `plan`, `rehearse` or `run` asks for by its options.
-ghost use Rattle.std.specs.Prelude.{◌≡◌, string_bytes};
+ghost use Rattle.std.specs.Prelude.{◌≡◌, option_map, string_bytes};
 ghost use Rattle.roll_run.specs.Histories.{Gains};
 ghost use Rattle.rollout.specs.Endings as spec;
+ghost use Rattle.rollout.specs.Kept.{KeepsBegun, KeepsJournal};
 ghost use Rattle.rollout.specs.Resumes as model;
 ghost use Rattle.rollout.specs.Resumes.{BeginsBy, RollsBy};
 ghost use Rattle.command_line.specs.Wishes.{wish_as};
@@ -54,8 +55,10 @@ pub fn run_by<
     out: &mut O,
     history: History,
 ) -> (Result<Status, Fault>, History)
-    ensures { Gains history result.1 (RollsBy (R.may runner.now) (A.asks coordinator.now.attend.now) (wish_as wishes.now) (sources_of (S.files system.now) (I.is_reliable input.old)) inventory playbook forks
+    ensures rolls { Gains history result.1 (RollsBy (R.may runner.now) (A.asks coordinator.now.attend.now) (wish_as wishes.now) (sources_of (S.known system.now) (I.is_reliable input.old)) inventory playbook forks
         (I.remaining input.old) (I.remaining input.new) (O.contents out.old) (O.contents out.new) result.0) }
+    ensures journal { Gains history result.1 (KeepsJournal S.Journal.contents S.is_new S.is_cut (wish_as wishes.now) (sources_of (S.known system.now) (I.is_reliable input.old)) inventory playbook
+        (I.remaining input.old) (I.remaining input.new) result.0) }
 {
     let call = call_of(coordinator.alloc, &inventory, &playbook, &forks, wishes);
     match &wishes.from {
@@ -98,7 +101,7 @@ pub fn limits_by<S: System, I: Input, O: Write>(
     input: &mut I,
     out: &mut O,
 ) -> Result<Status, Fault>
-    ensures { TabulatesBy (wish_as wishes.now).from (wish_as wishes.now) (sources_of (S.files system.now) (I.is_reliable input.old)) inventory
+    ensures { TabulatesBy (wish_as wishes.now).from (wish_as wishes.now) (sources_of (S.known system.now) (I.is_reliable input.old)) inventory
         (I.remaining input.old) (I.remaining input.new) (O.contents out.old) (O.contents out.new) result }
 {
     match &wishes.from {
@@ -119,7 +122,7 @@ fn limits_at_start<S: System, I: Input, O: Write>(
     input: &mut I,
     out: &mut O,
 ) -> Result<Status, Fault>
-    ensures { TabulatesAtStart (wish_as wishes.now).expected (wish_as wishes.now).json (sources_of (S.files system.now) (I.is_reliable input.old)) inventory
+    ensures { TabulatesAtStart (wish_as wishes.now).expected (wish_as wishes.now).json (sources_of (S.known system.now) (I.is_reliable input.old)) inventory
         (I.remaining input.old) (I.remaining input.new) (O.contents out.old) (O.contents out.new) result }
 {
     match &wishes.expected {
@@ -141,7 +144,7 @@ pub fn plan_or_rest<S: System, T: Watch, I: Input, O: Write>(
     input: &mut I,
     out: &mut O,
 ) -> Result<Status, Fault>
-    ensures { PlansFrom (wish_as wishes.now).from (wish_as wishes.now) (sources_of (S.files system.now) (I.is_reliable input.old)) inventory playbook
+    ensures { PlansFrom (wish_as wishes.now).from (wish_as wishes.now) (sources_of (S.known system.now) (I.is_reliable input.old)) inventory playbook
         (I.remaining input.old) (I.remaining input.new) (O.contents out.old) (O.contents out.new) result }
 {
     match &wishes.from {
@@ -173,7 +176,7 @@ fn plan_noted<S: System, T: Watch, I: Input, O: Write>(
     input: &mut I,
     out: &mut O,
 ) -> Result<Status, Fault>
-    ensures { PlansOrTellsWords (wish_as wishes.now).words (wish_as wishes.now) (sources_of (S.files system.now) (I.is_reliable input.old)) inventory playbook
+    ensures { PlansOrTellsWords (wish_as wishes.now).words (wish_as wishes.now) (sources_of (S.known system.now) (I.is_reliable input.old)) inventory playbook
         (I.remaining input.old) (I.remaining input.new) (O.contents out.old) (O.contents out.new) result }
 {
     if is_wanted(system, wishes) {
@@ -206,7 +209,7 @@ fn plan_or_words<S: System, T: Watch, I: Input, O: Write>(
     input: &mut I,
     out: &mut O,
 ) -> Result<Status, Fault>
-    ensures { PlansOrTellsWords (wish_as wishes.now).words (wish_as wishes.now) (sources_of (S.files system.now) (I.is_reliable input.old)) inventory playbook
+    ensures { PlansOrTellsWords (wish_as wishes.now).words (wish_as wishes.now) (sources_of (S.known system.now) (I.is_reliable input.old)) inventory playbook
         (I.remaining input.old) (I.remaining input.new) (O.contents out.old) (O.contents out.new) result }
 {
     if wishes.tells_words {
@@ -230,7 +233,7 @@ fn plan_at_start<S: System, T: Watch, I: Input, O: Write>(
     input: &mut I,
     out: &mut O,
 ) -> Result<Status, Fault>
-    ensures { PlansAtStart (wish_as wishes.now).expected (wish_as wishes.now).json (wish_as wishes.now) (sources_of (S.files system.now) (I.is_reliable input.old)) inventory playbook
+    ensures { PlansAtStart (wish_as wishes.now).expected (wish_as wishes.now).json (wish_as wishes.now) (sources_of (S.known system.now) (I.is_reliable input.old)) inventory playbook
         (I.remaining input.old) (I.remaining input.new) (O.contents out.old) (O.contents out.new) result }
 {
     match &wishes.expected {
@@ -270,7 +273,7 @@ pub fn rehearse_by<S: System, I: Input, O: Write>(
     input: &mut I,
     out: &mut O,
 ) -> Result<Status, Fault>
-    ensures { RehearsesBy (wish_as wishes.now).from (wish_as wishes.now) (sources_of (S.files system.now) (I.is_reliable input.old)) inventory playbook
+    ensures { RehearsesBy (wish_as wishes.now).from (wish_as wishes.now) (sources_of (S.known system.now) (I.is_reliable input.old)) inventory playbook
         (I.remaining input.old) (I.remaining input.new) (O.contents out.old) (O.contents out.new) result }
 {
     let is_strict = wishes.is_strict;
@@ -315,6 +318,7 @@ fn resume_wish<'w>(
 
 /// What a run is that begins, beside its inputs.
 fn start_wish<'w>(wishes: &'w Wishes, call: Option<&'w Call>) -> StartWish<'w>
+    ensures journal { option_map string_bytes result.journal.now ≡ (wish_as wishes.now).journal }
     ensures strict { result.is_strict ≡ (wish_as wishes.now).strict }
     ensures form { result.form ≡ spec.form_of (wish_as wishes.now).json }
 {
@@ -351,8 +355,10 @@ fn begin_by<
     out: &mut O,
     history: History,
 ) -> (Result<Status, Fault>, History)
-    ensures { Gains history result.1 (BeginsBy wish.entry.form wish.entry.is_strict (R.may runner.now) (A.asks coordinator.now.attend.now) mended.now (sources_of (S.files system.now) (I.is_reliable input.old)) inventory playbook forks
+    ensures rolls { Gains history result.1 (BeginsBy wish.entry.form wish.entry.is_strict (R.may runner.now) (A.asks coordinator.now.attend.now) mended.now (sources_of (S.known system.now) (I.is_reliable input.old)) inventory playbook forks
         (I.remaining input.old) (I.remaining input.new) (O.contents out.old) (O.contents out.new) result.0) }
+    ensures journal { Gains history result.1 (KeepsBegun S.Journal.contents S.is_new S.is_cut (option_map string_bytes wish.entry.journal.now) mended.now (sources_of (S.known system.now) (I.is_reliable input.old)) inventory playbook
+        (I.remaining input.old) (I.remaining input.new) result.0) }
 {
     if mended.is_empty() {
         roll(

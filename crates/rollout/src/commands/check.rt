@@ -25,7 +25,7 @@ pub fn check<S: System, I: Input, W: Write>(
     input: &mut I,
     out: &mut W,
 ) -> Result<Status, Fault>
-    ensures { Checks (sources_of (S.files system.now) (I.is_reliable input.old)) inventory playbook plan (I.remaining input.old) (I.remaining input.new)
+    ensures { Checks (sources_of (S.known system.now) (I.is_reliable input.old)) inventory playbook plan (I.remaining input.old) (I.remaining input.new)
         (W.contents out.old) (W.contents out.new) result }
 {
     match read_three(system, alloc, inventory, playbook, plan, input) {

@@ -30,7 +30,7 @@ pub fn course<S: System, T: Watch, I: Input, W: Write>(
     input: &mut I,
     out: &mut W,
 ) -> Result<Status, Fault>
-    ensures { Foresees (sources_of (S.files system.now) (I.is_reliable input.old)) inventory playbook failing.now (I.remaining input.old) (I.remaining input.new)
+    ensures { Foresees (sources_of (S.known system.now) (I.is_reliable input.old)) inventory playbook failing.now (I.remaining input.old) (I.remaining input.new)
         (W.contents out.old) (W.contents out.new) result }
 {
     match read_both(system, alloc, inventory, playbook, input) {

@@ -41,7 +41,7 @@ pub fn limits_expecting<S: System, I: Input, W: Write>(
     input: &mut I,
     out: &mut W,
 ) -> Result<Status, Fault>
-    ensures { ExpectsTable list.now (sources_of (S.files system.now) (I.is_reliable input.old)) inventory (I.remaining input.old) (I.remaining input.new)
+    ensures { ExpectsTable list.now (sources_of (S.known system.now) (I.is_reliable input.old)) inventory (I.remaining input.old) (I.remaining input.new)
         (W.contents out.old) (W.contents out.new) result }
 {
     let expected = match read_list(alloc, list) {
@@ -82,7 +82,7 @@ pub fn plan_expecting<S: System, T: Watch, I: Input, W: Write>(
     input: &mut I,
     out: &mut W,
 ) -> Result<Status, Fault>
-    ensures { ExpectsPlan list.now (sources_of (S.files system.now) (I.is_reliable input.old)) inventory playbook (I.remaining input.old) (I.remaining input.new)
+    ensures { ExpectsPlan list.now (sources_of (S.known system.now) (I.is_reliable input.old)) inventory playbook (I.remaining input.old) (I.remaining input.new)
         (W.contents out.old) (W.contents out.new) result }
 {
     let expected = match read_list(alloc, list) {

@@ -25,7 +25,7 @@ pub fn limits_in_json<S: System, I: Input, W: Write>(
     input: &mut I,
     out: &mut W,
 ) -> Result<Status, Fault>
-    ensures { TabulatesJson (sources_of (S.files system.now) (I.is_reliable input.old)) inventory (I.remaining input.old) (I.remaining input.new)
+    ensures { TabulatesJson (sources_of (S.known system.now) (I.is_reliable input.old)) inventory (I.remaining input.old) (I.remaining input.new)
         (W.contents out.old) (W.contents out.new) result }
 {
     match read_source(system, alloc, inventory, input) {
@@ -57,7 +57,7 @@ pub fn plan_in_json<S: System, T: Watch, I: Input, W: Write>(
     input: &mut I,
     out: &mut W,
 ) -> Result<Status, Fault>
-    ensures { PlansJson (option_map string_bytes failing.now) (sources_of (S.files system.now) (I.is_reliable input.old)) inventory playbook
+    ensures { PlansJson (option_map string_bytes failing.now) (sources_of (S.known system.now) (I.is_reliable input.old)) inventory playbook
         (I.remaining input.old) (I.remaining input.new) (W.contents out.old) (W.contents out.new) result }
 {
     match failing {
@@ -84,7 +84,7 @@ fn plan_of_play<S: System, T: Watch, I: Input, W: Write>(
     input: &mut I,
     out: &mut W,
 ) -> Result<Status, Fault>
-    ensures { PlansJson None (sources_of (S.files system.now) (I.is_reliable input.old)) inventory playbook
+    ensures { PlansJson None (sources_of (S.known system.now) (I.is_reliable input.old)) inventory playbook
         (I.remaining input.old) (I.remaining input.new) (W.contents out.old) (W.contents out.new) result }
 {
     match read_both(system, alloc, inventory, playbook, input) {
@@ -112,7 +112,7 @@ fn course_of_plays<S: System, T: Watch, I: Input, W: Write>(
     input: &mut I,
     out: &mut W,
 ) -> Result<Status, Fault>
-    ensures { PlansJson (Some failing.now) (sources_of (S.files system.now) (I.is_reliable input.old)) inventory playbook
+    ensures { PlansJson (Some failing.now) (sources_of (S.known system.now) (I.is_reliable input.old)) inventory playbook
         (I.remaining input.old) (I.remaining input.new) (W.contents out.old) (W.contents out.new) result }
 {
     match read_both(system, alloc, inventory, playbook, input) {

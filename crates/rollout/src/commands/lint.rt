@@ -46,7 +46,7 @@ pub fn lint<S: System, I: Input, W: Write>(
     input: &mut I,
     out: &mut W,
 ) -> Result<Status, Fault>
-    ensures { Lints list.now (sources_of (S.files system.now) (I.is_reliable input.old)) inventory playbook (I.remaining input.old) (I.remaining input.new)
+    ensures { Lints list.now (sources_of (S.known system.now) (I.is_reliable input.old)) inventory playbook (I.remaining input.old) (I.remaining input.new)
         (W.contents out.old) (W.contents out.new) result }
 {
     let allowed = match read_list(alloc, list) {
@@ -67,7 +67,7 @@ fn lint_one<S: System, I: Input, W: Write>(
     input: &mut I,
     out: &mut W,
 ) -> Result<Status, Fault>
-    ensures { LintsOne allowed.now (sources_of (S.files system.now) (I.is_reliable input.old)) inventory (I.remaining input.old) (I.remaining input.new)
+    ensures { LintsOne allowed.now (sources_of (S.known system.now) (I.is_reliable input.old)) inventory (I.remaining input.old) (I.remaining input.new)
         (W.contents out.old) (W.contents out.new) result }
 {
     match read_source(system, alloc, inventory, input) {
@@ -105,7 +105,7 @@ fn lint_both<S: System, I: Input, W: Write>(
     input: &mut I,
     out: &mut W,
 ) -> Result<Status, Fault>
-    ensures { LintsBoth allowed.now (sources_of (S.files system.now) (I.is_reliable input.old)) inventory playbook (I.remaining input.old) (I.remaining input.new)
+    ensures { LintsBoth allowed.now (sources_of (S.known system.now) (I.is_reliable input.old)) inventory playbook (I.remaining input.old) (I.remaining input.new)
         (W.contents out.old) (W.contents out.new) result }
 {
     match read_both(system, alloc, inventory, playbook, input) {

@@ -1,7 +1,8 @@
 //! The command `run` of a run that begins though hosts are up by now which the inventory has as down.
-ghost use Rattle.std.specs.Prelude.{◌≡◌, ◌<◌, ◌≤◌, Err, IfErr, IfOk, true};
+ghost use Rattle.std.specs.Prelude.{◌≡◌, ◌<◌, ◌≤◌, Err, IfErr, IfOk, IfSome, string_bytes, true};
 ghost use Rattle.roll_run.specs.Histories.{Gains};
 ghost use Rattle.resuming.specs.Resumptions.{CanRun, IsMendedBeginning, RefusesToBegin};
+ghost use Rattle.rollout.specs.Kept.{KeepsMended, OfInputsOrNothing};
 ghost use Rattle.rollout.specs.Locks.{IsGiven};
 ghost use Rattle.rollout.specs.Resumes.{BreaksRest, GoesOnBy, MendsInputs, PrintsRest, RollsMended};
 ghost use Rattle.rollout.specs.Systems.{sources_of};
@@ -52,8 +53,10 @@ pub fn roll_mended<
     out: &mut W,
     history: History,
 ) -> (Result<Status, Fault>, History)
-    ensures { Gains history result.1 (RollsMended wish.entry.form (R.may runner.now) (A.asks coordinator.now.attend.now) (sources_of (S.files system.now) (I.is_reliable input.old)) inventory playbook mended.now forks
+    ensures rolls { Gains history result.1 (RollsMended wish.entry.form (R.may runner.now) (A.asks coordinator.now.attend.now) (sources_of (S.known system.now) (I.is_reliable input.old)) inventory playbook mended.now forks
         (I.remaining input.old) (I.remaining input.new) (W.contents out.old) (W.contents out.new) result.0) }
+    ensures journal { IfSome wish.entry.journal.now (λ name. Gains history result.1 (OfInputsOrNothing (KeepsMended S.Journal.contents S.is_new S.is_cut (string_bytes name) mended.now) (sources_of (S.known system.now) (I.is_reliable input.old)) inventory playbook
+        (I.remaining input.old) (I.remaining input.new) result.0)) }
 {
     match may_begin(system, coordinator.alloc, watch, &inventory, wish) {
         Ok(Held { lock, given }) => {
@@ -107,9 +110,11 @@ fn mend_inputs<
 ) -> (Result<Status, Fault>, History)
     requires some { 0 < forks }
     requires few { forks ≤ 64 }
-    requires given { IsGiven (S.files system.now) inventory given }
-    ensures mends { Gains history result.1 (MendsInputs wish.entry.form (R.may runner.now) (sources_of (S.files system.now) (I.is_reliable input.old)) inventory playbook mended.now forks
+    requires given { IsGiven (S.known system.now).files inventory given }
+    ensures mends { Gains history result.1 (MendsInputs wish.entry.form (R.may runner.now) (sources_of (S.known system.now) (I.is_reliable input.old)) inventory playbook mended.now forks
         (I.remaining input.old) (I.remaining input.new) (W.contents out.old) (W.contents out.new) result.0) }
+    ensures journal { IfSome wish.entry.journal.now (λ name. Gains history result.1 (OfInputsOrNothing (KeepsMended S.Journal.contents S.is_new S.is_cut (string_bytes name) mended.now) (sources_of (S.known system.now) (I.is_reliable input.old)) inventory playbook
+        (I.remaining input.old) (I.remaining input.new) result.0)) }
     ensures stops { result.0 ≡ Err Stopped → A.asks coordinator.now.attend.now ≡ true }
 {
     match read_behind(system, coordinator.alloc, given, inventory, playbook, input) {
@@ -156,6 +161,7 @@ fn mend_texts<
     requires few { forks ≤ 64 }
     ensures goes { Gains history result.1 (GoesOnBy wish.entry.form (R.may runner.now) (IsMendedBeginning inventory.now playbook.now mended.now) (RefusesToBegin inventory.now playbook.now mended.now) forks
         (W.contents out.old) (W.contents out.new) result.0) }
+    ensures journal { IfSome wish.entry.journal.now (λ name. Gains history result.1 (KeepsMended S.Journal.contents S.is_new S.is_cut (string_bytes name) mended.now inventory.now playbook.now result.0)) }
     ensures stops { result.0 ≡ Err Stopped → A.asks coordinator.now.attend.now ≡ true }
 {
     let beginning = match begin_inputs(coordinator.alloc, inventory, playbook, mended) {

@@ -32,7 +32,7 @@ fn plan_or_course<S: System, T: Watch, I: Input, O: Write>(
     input: &mut I,
     out: &mut O,
 ) -> Result<Status, Fault>
-    ensures { PlansOrForesees (option_map string_bytes failing.now) (sources_of (S.files system.now) (I.is_reliable input.old)) inventory playbook
+    ensures { PlansOrForesees (option_map string_bytes failing.now) (sources_of (S.known system.now) (I.is_reliable input.old)) inventory playbook
         (I.remaining input.old) (I.remaining input.new) (O.contents out.old) (O.contents out.new) result }
 {
     match failing {
@@ -66,7 +66,7 @@ fn print_plan<S: System, T: Watch, I: Input, O: Write>(
     input: &mut I,
     out: &mut O,
 ) -> Result<Status, Fault>
-    ensures { PlansBy wishes.now.is_grouped (option_map string_bytes wishes.now.color) (option_map string_bytes wishes.now.course) (sources_of (S.files system.now) (I.is_reliable input.old)) inventory playbook
+    ensures { PlansBy wishes.now.is_grouped (option_map string_bytes wishes.now.color) (option_map string_bytes wishes.now.course) (sources_of (S.known system.now) (I.is_reliable input.old)) inventory playbook
         (I.remaining input.old) (I.remaining input.new) (O.contents out.old) (O.contents out.new) result }
 {
     let course = &wishes.course;
@@ -93,7 +93,7 @@ pub fn plan_by<S: System, T: Watch, I: Input, O: Write>(
     input: &mut I,
     out: &mut O,
 ) -> Result<Status, Fault>
-    ensures { PlansDrawn (option_map string_bytes wishes.now.picture) wishes.now.is_grouped (option_map string_bytes wishes.now.color) (option_map string_bytes wishes.now.course) (sources_of (S.files system.now) (I.is_reliable input.old)) inventory playbook
+    ensures { PlansDrawn (option_map string_bytes wishes.now.picture) wishes.now.is_grouped (option_map string_bytes wishes.now.color) (option_map string_bytes wishes.now.course) (sources_of (S.known system.now) (I.is_reliable input.old)) inventory playbook
         (I.remaining input.old) (I.remaining input.new) (O.contents out.old) (O.contents out.new) result }
 {
     let mut drawing = Drawing::new(system, wishes);

@@ -40,9 +40,9 @@ fn read_all<S: System, I: Input>(
     journal: &str,
     input: &mut I,
 ) -> Result<Texts, Fault>
-    ensures ok { IfOk result (λ texts. spec.ReadsAll (sources_of (S.files system.now) (I.is_reliable input.old)) inventory playbook journal.now
+    ensures ok { IfOk result (λ texts. spec.ReadsAll (sources_of (S.known system.now) (I.is_reliable input.old)) inventory playbook journal.now
         (I.remaining input.old) (I.remaining input.new) texts.inventory.items texts.playbook.items texts.journal.items) }
-    ensures err { IfErr result (spec.LacksAny (sources_of (S.files system.now) (I.is_reliable input.old)) inventory playbook journal.now (I.remaining input.old) (I.remaining input.new)) }
+    ensures err { IfErr result (spec.LacksAny (sources_of (S.known system.now) (I.is_reliable input.old)) inventory playbook journal.now (I.remaining input.old) (I.remaining input.new)) }
     ensures stays { I.is_reliable input.new ≡ I.is_reliable input.old }
 {
     let (inventory, playbook) = match read_both(system, alloc, inventory, playbook, input) {
@@ -71,7 +71,7 @@ pub fn plan_rest<S: System, I: Input, W: Write>(
     input: &mut I,
     out: &mut W,
 ) -> Result<Status, Fault>
-    ensures { spec.PlansRest (option_map string_bytes course.now) (sources_of (S.files system.now) (I.is_reliable input.old)) inventory playbook (model.wished wish.entry)
+    ensures { spec.PlansRest (option_map string_bytes course.now) (sources_of (S.known system.now) (I.is_reliable input.old)) inventory playbook (model.wished wish.entry)
         (I.remaining input.old) (I.remaining input.new) (W.contents out.old) (W.contents out.new) result }
 {
     match read_all(system, alloc, inventory, playbook, wish.journal, input) {
@@ -126,7 +126,7 @@ pub fn rehearse_rest<S: System, I: Input, W: Write>(
     input: &mut I,
     out: &mut W,
 ) -> Result<Status, Fault>
-    ensures { spec.RehearsesFrom is_strict (sources_of (S.files system.now) (I.is_reliable input.old)) inventory playbook (model.wished wish.entry)
+    ensures { spec.RehearsesFrom is_strict (sources_of (S.known system.now) (I.is_reliable input.old)) inventory playbook (model.wished wish.entry)
         (I.remaining input.old) (I.remaining input.new) (W.contents out.old) (W.contents out.new) result }
 {
     match read_all(system, alloc, inventory, playbook, wish.journal, input) {
@@ -174,7 +174,7 @@ pub fn limits_standing<S: System, I: Input, W: Write>(
     input: &mut I,
     out: &mut W,
 ) -> Result<Status, Fault>
-    ensures { spec.TabulatesStanding (sources_of (S.files system.now) (I.is_reliable input.old)) inventory (model.wished wish.entry)
+    ensures { spec.TabulatesStanding (sources_of (S.known system.now) (I.is_reliable input.old)) inventory (model.wished wish.entry)
         (I.remaining input.old) (I.remaining input.new) (W.contents out.old) (W.contents out.new) result }
 {
     let inventory = match read_source(system, alloc, inventory, input) {

@@ -5,8 +5,11 @@ ghost use Rattle.journal.specs.Lines.{max_body};
 ghost use Rattle.play_course.specs.PlayPlans.{named_parts};
 ghost use Rattle.roll_run.specs.Histories.{Gains};
 ghost use Rattle.roll_run.specs.Plays.{MayStart};
+ghost use Rattle.running.specs.Beginnings.{plays_from};
+ghost use Rattle.running.specs.Keepings.{KeepsAheadFrom, KeepsFrom};
 ghost use Rattle.resuming.specs.Resumptions.{CanRun};
 ghost use Rattle.rollout.specs.Inputs.{IsTextOfFile};
+ghost use Rattle.rollout.specs.Kept.{KeepsAgain, KeepsRest, KeepsResumed, KeepsTo};
 ghost use Rattle.rollout.specs.Locks.{IsGiven};
 ghost use Rattle.rollout.specs.Resumes.{BreaksRest, GoesOnBy, IsNoneWished, IsWished, LacksJournal, PrintsRest, Resumes, ResumesInputs};
 ghost use Rattle.rollout.specs.Resumes as model;
@@ -75,8 +78,10 @@ pub fn resume<
     out: &mut W,
     history: History,
 ) -> (Result<Status, Fault>, History)
-    ensures { Gains history result.1 (Resumes wish.now.form (R.may runner.now) (A.asks coordinator.now.attend.now) (sources_of (S.files system.now) (I.is_reliable input.old)) inventory playbook (model.wished wish.now) forks
+    ensures rolls { Gains history result.1 (Resumes wish.now.form (R.may runner.now) (A.asks coordinator.now.attend.now) (sources_of (S.known system.now) (I.is_reliable input.old)) inventory playbook (model.wished wish.now) forks
         (I.remaining input.old) (I.remaining input.new) (W.contents out.old) (W.contents out.new) result.0) }
+    ensures journal { Gains history result.1 (KeepsResumed S.Journal.contents S.is_new S.is_cut (model.wished wish.now) (sources_of (S.known system.now) (I.is_reliable input.old)) inventory playbook
+        (I.remaining input.old) (I.remaining input.new) result.0) }
 {
     if let Some(fault) = refusal(system, coordinator.alloc) {
         return (Err(fault), history);
@@ -135,9 +140,11 @@ fn resume_sources<
 ) -> (Result<Status, Fault>, History)
     requires some { 0 < forks }
     requires few { forks ≤ 64 }
-    requires given { IsGiven (S.files system.now) inventory given }
-    ensures resumes { Gains history result.1 (ResumesInputs wish.now.form (R.may runner.now) (sources_of (S.files system.now) (I.is_reliable input.old)) inventory playbook (model.wished wish.now) forks
+    requires given { IsGiven (S.known system.now).files inventory given }
+    ensures resumes { Gains history result.1 (ResumesInputs wish.now.form (R.may runner.now) (sources_of (S.known system.now) (I.is_reliable input.old)) inventory playbook (model.wished wish.now) forks
         (I.remaining input.old) (I.remaining input.new) (W.contents out.old) (W.contents out.new) result.0) }
+    ensures journal { Gains history result.1 (KeepsResumed S.Journal.contents S.is_new S.is_cut (model.wished wish.now) (sources_of (S.known system.now) (I.is_reliable input.old)) inventory playbook
+        (I.remaining input.old) (I.remaining input.new) result.0) }
     ensures stops { result.0 ≡ Err Stopped → A.asks coordinator.now.attend.now ≡ true }
 {
     let (inventory, playbook) = match read_behind(
@@ -174,8 +181,8 @@ pub(crate) fn read_journal_file<S: System>(
     alloc: Global,
     name: &str,
 ) -> Result<Vec<u8>, Fault>
-    ensures ok { IfOk result (λ text. IsTextOfFile (S.files system.now name.now) text.items) }
-    ensures err { IfErr result (LacksJournal (S.files system.now) name.now) }
+    ensures ok { IfOk result (λ text. IsTextOfFile ((S.known system.now).files name.now) text.items) }
+    ensures err { IfErr result (LacksJournal (S.known system.now).files name.now) }
 {
     match read_file(system, alloc, name) {
         Ok(text) => Ok(text),
@@ -213,6 +220,7 @@ fn resume_texts<
     requires short { length journal.now ≤ max_body }
     ensures goes { Gains history result.1 (GoesOnBy wish.now.form (R.may runner.now) (IsWished inventory.now playbook.now journal.now (model.wished wish.now))
         (IsNoneWished inventory.now playbook.now journal.now (model.wished wish.now)) forks (W.contents out.old) (W.contents out.new) result.0) }
+    ensures journal { Gains history result.1 (KeepsAgain S.Journal.contents S.is_new S.is_cut (model.wished wish.now) inventory.now playbook.now journal.now result.0) }
     ensures stops { result.0 ≡ Err Stopped → A.asks coordinator.now.attend.now ≡ true }
 {
     let wished = Wish {
@@ -267,6 +275,7 @@ pub(crate) fn keep_rest<
     requires rest { CanRun resumption }
     ensures ok { IfOk result.0 (λ status. Gains history result.1 (PrintsRest manner.entry.form (R.may runner.now) resumption.fleet resumption.plays.items resumption.beginning manner.entry.forks (W.contents out.old) (W.contents out.new) status)) }
     ensures err { IfErr result.0 (λ fault. Gains history result.1 (BreaksRest manner.entry.form (R.may runner.now) resumption.fleet resumption.plays.items resumption.beginning manner.entry.forks (W.contents out.old) (W.contents out.new) fault)) }
+    ensures journal { Gains history result.1 (KeepsRest F.contents (λ first. first ≡ file) resumption result.0) }
     ensures stops { result.0 ≡ Err Stopped → A.asks coordinator.now.attend.now ≡ true }
 {
     let Resumption {
@@ -319,6 +328,7 @@ pub(crate) fn run_rest<
     requires starts { MayStart fleet.now beginning.start }
     ensures ok { IfOk result.0 (λ status. Gains history result.1 (PrintsRest manner.entry.form (R.may runner.now) fleet.now plays.now beginning manner.entry.forks (W.contents out.old) (W.contents out.new) status)) }
     ensures err { IfErr result.0 (λ fault. Gains history result.1 (BreaksRest manner.entry.form (R.may runner.now) fleet.now plays.now beginning manner.entry.forks (W.contents out.old) (W.contents out.new) fault)) }
+    ensures kept { Gains history result.1 (KeepsTo (KeepsFrom K.keeps fleet.now (plays_from beginning plays.now)) (KeepsAheadFrom K.keeps fleet.now (plays_from beginning plays.now)) K.is_whole_now keeper result.0) }
     ensures stops { result.0 ≡ Err Stopped → A.asks coordinator.now.attend.now ≡ true }
 {
     let (ran, history, keeper) = run_from(

@@ -1,10 +1,12 @@
 //! The command `run`: from the files of an inventory and a playbook to the recap of a run.
-ghost use Rattle.std.specs.Prelude.{◌≡◌, ◌<◌, ◌≤◌, Err, IfOk, IfErr, Ok, OnOk, false, true};
+ghost use Rattle.std.specs.Prelude.{◌≡◌, ◌<◌, ◌≤◌, Err, IfOk, IfErr, IfSome, Ok, OnOk, false, string_bytes, true};
 ghost use Rattle.roll_run.specs.Histories.{Gains};
+ghost use Rattle.running.specs.Keepings.{KeepsBroken, KeepsRuns};
 ghost use Rattle.rollout.specs.Children.{IsAnswerOf};
+ghost use Rattle.rollout.specs.Kept.{KeepsNew, KeepsTo, OfInputsOrNothing};
 ghost use Rattle.rollout.specs.Locks.{IsGiven};
 ghost use Rattle.rollout.specs.Rolls.{BreaksOff, IsRefusedBy, PrintsRecap, Rolls, RollsInputs};
-ghost use Rattle.rollout.specs.Systems.{sources_of};
+ghost use Rattle.rollout.specs.Systems.{IsSomewhere, sources_of};
 ghost use Rattle.rollout.specs.RollFaults.{fault_of};
 ghost use Rattle.rollout.specs.Status.{status_of_run};
 ghost use Rattle.rollout.specs.declared.fault.Fault.TheVariants.{JournalWrite, Stopped};
@@ -50,9 +52,9 @@ pub(crate) fn may_begin<S: System, T: Watch>(
     inventory: &Source,
     wish: StartWish<'_>,
 ) -> Result<Held<S::Lock>, Fault>
-    ensures ok { OnOk result (IsAnswerOf (S.files system.now) false) }
-    ensures given { IfOk result (λ held. IsGiven (S.files system.now) inventory.now held.given) }
-    ensures err { IfErr result (IsRefusedBy (S.files system.now)) }
+    ensures ok { OnOk result (IsAnswerOf (S.known system.now).files false) }
+    ensures given { IfOk result (λ held. IsGiven (S.known system.now).files inventory.now held.given) }
+    ensures err { IfErr result (IsRefusedBy (S.known system.now)) }
 {
     if let Some(fault) = refusal(system, alloc) {
         return Err(fault);
@@ -87,8 +89,10 @@ pub fn roll<
     out: &mut W,
     history: History,
 ) -> (Result<Status, Fault>, History)
-    ensures { Gains history result.1 (Rolls wish.entry.form wish.entry.is_strict (R.may runner.now) (A.asks coordinator.now.attend.now) (sources_of (S.files system.now) (I.is_reliable input.old)) inventory playbook forks
+    ensures rolls { Gains history result.1 (Rolls wish.entry.form wish.entry.is_strict (R.may runner.now) (A.asks coordinator.now.attend.now) (sources_of (S.known system.now) (I.is_reliable input.old)) inventory playbook forks
         (I.remaining input.old) (I.remaining input.new) (W.contents out.old) (W.contents out.new) result.0) }
+    ensures journal { IfSome wish.entry.journal.now (λ name. Gains history result.1 (OfInputsOrNothing (KeepsNew S.Journal.contents S.is_new S.is_cut (string_bytes name)) (sources_of (S.known system.now) (I.is_reliable input.old)) inventory playbook
+        (I.remaining input.old) (I.remaining input.new) result.0)) }
 {
     match may_begin(system, coordinator.alloc, watch, &inventory, wish) {
         Ok(Held { lock, given }) => {
@@ -115,7 +119,9 @@ pub fn roll<
 }
 
 /// Whether a file of the journal's name is there.
-fn is_there<S: System>(system: &S, journal: &Option<String>) -> bool {
+fn is_there<S: System>(system: &S, journal: &Option<String>) -> bool
+    ensures { result ≡ true → IsSomewhere (S.known system.now).there }
+{
     match journal {
         Some(name) => system.is_there(name.as_str()),
         None => false,
@@ -148,9 +154,11 @@ fn roll_inputs<
 ) -> (Result<Status, Fault>, History)
     requires some { 0 < forks }
     requires few { forks ≤ 64 }
-    requires given { IsGiven (S.files system.now) inventory given }
-    ensures rolls { Gains history result.1 (RollsInputs wish.entry.form wish.entry.is_strict (R.may runner.now) (sources_of (S.files system.now) (I.is_reliable input.old)) inventory playbook forks
+    requires given { IsGiven (S.known system.now).files inventory given }
+    ensures rolls { Gains history result.1 (RollsInputs wish.entry.form wish.entry.is_strict (R.may runner.now) (sources_of (S.known system.now) (I.is_reliable input.old)) inventory playbook forks
         (I.remaining input.old) (I.remaining input.new) (W.contents out.old) (W.contents out.new) result.0) }
+    ensures journal { IfSome wish.entry.journal.now (λ name. Gains history result.1 (OfInputsOrNothing (KeepsNew S.Journal.contents S.is_new S.is_cut (string_bytes name)) (sources_of (S.known system.now) (I.is_reliable input.old)) inventory playbook
+        (I.remaining input.old) (I.remaining input.new) result.0)) }
     ensures stops { result.0 ≡ Err Stopped → A.asks coordinator.now.attend.now ≡ true }
 {
     match read_behind(system, coordinator.alloc, given, inventory, playbook, input) {
@@ -202,6 +210,7 @@ fn roll_texts<
     requires few { forks ≤ 64 }
     ensures ok { IfOk result.0 (λ status. Gains history result.1 (PrintsRecap wish.entry.form (R.may runner.now) inventory.now playbook.now forks (W.contents out.old) (W.contents out.new) status)) }
     ensures err { IfErr result.0 (λ fault. Gains history result.1 (BreaksOff wish.entry.form (R.may runner.now) inventory.now playbook.now forks (W.contents out.old) (W.contents out.new) fault)) }
+    ensures journal { IfSome wish.entry.journal.now (λ name. Gains history result.1 (KeepsNew S.Journal.contents S.is_new S.is_cut (string_bytes name) inventory.now playbook.now result.0)) }
     ensures stops { result.0 ≡ Err Stopped → A.asks coordinator.now.attend.now ≡ true }
 {
     let manner = Manner {
@@ -263,6 +272,7 @@ fn roll_with<
     requires few { manner.forks ≤ 64 }
     ensures ok { IfOk result.0 (λ status. Gains history result.1 (PrintsRecap manner.entry.form (R.may runner.now) inventory.now playbook.now manner.entry.forks (W.contents out.old) (W.contents out.new) status)) }
     ensures err { IfErr result.0 (λ fault. Gains history result.1 (BreaksOff manner.entry.form (R.may runner.now) inventory.now playbook.now manner.entry.forks (W.contents out.old) (W.contents out.new) fault)) }
+    ensures kept { Gains history result.1 (KeepsTo (KeepsRuns K.keeps inventory.now playbook.now) (KeepsBroken K.keeps inventory.now playbook.now) K.is_whole_now keeper result.0) }
     ensures stops { result.0 ≡ Err Stopped → A.asks coordinator.now.attend.now ≡ true }
 {
     let (ran, history, keeper) = run_text(

@@ -2,7 +2,7 @@
 ghost use Rattle.std.specs.Prelude.{◌≡◌, ◌≤◌, IfErr, IfOk, length};
 ghost use Rattle.journal.specs.Lines.{max_body};
 ghost use Rattle.journal.specs.Shown.{shown_journal};
-ghost use Rattle.rollout.specs.StateTexts.{IsTrueOfJournal, RefusesTexts, TellsState, TellsStanding, TellsTexts, endless_status, status_of_state};
+ghost use Rattle.rollout.specs.StateTexts.{IsAsked, IsTrueOfJournal, RefusesTexts, TellsState, TellsStanding, TellsTexts, endless_status, status_of_state};
 ghost use Rattle.rollout.specs.Systems.{sources_of};
 
 use crate::call::call_on;
@@ -33,7 +33,7 @@ pub fn state<S: System, T: Watch, I: Input, W: Write>(
     input: &mut I,
     out: &mut W,
 ) -> Result<Status, Fault>
-    ensures { TellsState takes_others (sources_of (S.files system.now) (I.is_reliable input.old)) inventory journal (I.remaining input.old) (I.remaining input.new)
+    ensures { TellsState takes_others (sources_of (S.known system.now) (I.is_reliable input.old)) inventory journal (I.remaining input.old) (I.remaining input.new)
         (W.contents out.old) (W.contents out.new) result }
 {
     // Asked before the journal is read: a run that ends meanwhile is told as ended.
@@ -60,7 +60,8 @@ fn tell_sources<S: System, T: Watch, I: Input, W: Write>(
     input: &mut I,
     out: &mut W,
 ) -> Result<Status, Fault>
-    ensures { TellsState standing.now.takes_others (sources_of (S.files system.now) (I.is_reliable input.old)) inventory journal (I.remaining input.old) (I.remaining input.new)
+    requires { IsAsked (S.known system.now) journal standing.now.goes_on }
+    ensures { TellsState standing.now.takes_others (sources_of (S.known system.now) (I.is_reliable input.old)) inventory journal (I.remaining input.old) (I.remaining input.new)
         (W.contents out.old) (W.contents out.new) result }
 {
     match read_both(system, alloc, inventory, journal, input) {
@@ -74,7 +75,9 @@ fn tell_sources<S: System, T: Watch, I: Input, W: Write>(
 }
 
 /// Whether the run of this journal still goes on: it holds the journal's lock until it ends, however it does.
-fn is_going_on<S: System>(system: &S, journal: &Source) -> bool {
+fn is_going_on<S: System>(system: &S, journal: &Source) -> bool
+    ensures { IsAsked (S.known system.now) journal.now result }
+{
     match journal {
         Source::File(name) => system.is_held(name.as_str()),
         Source::StandardInput => false,

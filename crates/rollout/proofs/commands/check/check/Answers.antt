@@ -7,7 +7,7 @@ use Rattle.rollout.proofs.commands.check.check.Goals as goal
 
 pub returns-in-Ok : goal.returns-in-Ok
 returns-in-Ok g c =
-    let sources = sources_of (g.S.System.files c.args.system.now) (g.I.Input.is_reliable c.args.input.now) in
+    let sources = sources_of (g.S.System.known c.args.system.now) (g.I.Input.is_reliable c.args.input.now) in
     let old = g.W.Write.contents c.args.out.now in
     let new = g.W.Write.contents c.print_check.new.out in
     let prints = rw (c.as_slice.ensures.value, c.as_slice-in-Ok.ensures.value, c.as_slice-in-Ok-2.ensures.value) at c.print_check.ensures.ok in

@@ -8,7 +8,7 @@ use Rattle.rollout.proofs.commands.expecting.plan_expecting.Goals as goal
 
 pub returns-in-Ok-read_both : goal.returns-in-Ok-read_both
 returns-in-Ok-read_both g c =
-    let sources = sources_of (g.S.System.files c.args.system.now) (g.I.Input.is_reliable c.args.input.now) in
+    let sources = sources_of (g.S.System.known c.args.system.now) (g.I.Input.is_reliable c.args.input.now) in
     let old = g.W.Write.contents c.args.out.now in
     let new = g.W.Write.contents c.print_plan-printed.new.out in
     let expected = all_shown c.in-Ok.expected.items in

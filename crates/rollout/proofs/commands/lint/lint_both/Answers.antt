@@ -6,7 +6,7 @@ use Rattle.rollout.proofs.commands.lint.lint_both.Goals as goal
 
 pub returns-in-Ok : goal.returns-in-Ok
 returns-in-Ok g c =
-    let sources = sources_of (g.S.System.files c.args.system.now) (g.I.Input.is_reliable c.args.input.now) in
+    let sources = sources_of (g.S.System.known c.args.system.now) (g.I.Input.is_reliable c.args.input.now) in
     let old = g.W.Write.contents c.args.out.now in
     let new = g.W.Write.contents c.print_on_both.new.out in
     let allowed = c.args.allowed.now in

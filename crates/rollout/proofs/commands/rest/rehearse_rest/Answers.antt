@@ -7,7 +7,7 @@ use Rattle.rollout.proofs.commands.rest.rehearse_rest.Goals as goal
 
 pub returns-in-Ok : goal.returns-in-Ok
 returns-in-Ok g c =
-    let sources = sources_of (g.S.System.files c.args.system.now) (g.I.Input.is_reliable c.args.input.now) in
+    let sources = sources_of (g.S.System.known c.args.system.now) (g.I.Input.is_reliable c.args.input.now) in
     let wish = model.wished c.args.wish in
     let old = g.I.Read.remaining c.args.input.now in
     let between = g.I.Read.remaining c.read_all.new.input in

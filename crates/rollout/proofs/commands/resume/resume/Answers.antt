@@ -3,8 +3,8 @@ use Rattle.std.proofs.KnownBytes.{Keeps-refl}
 use Rattle.roll_run.proofs.Following.{gains_none}
 use Rattle.rollout.proofs.commands.resume.resume.Goals as goal
 
-pub returns-in-Some : goal.returns-in-Some
-returns-in-Some g c =
+pub returns-in-Some-clause-rolls : goal.returns-in-Some-clause-rolls
+returns-in-Some-clause-rolls g c =
     gains_none c.args.history c.args.history refl (inl (record {
       fault = c.in-Some.fault;
       because = c.in-Some.ensures.some;
@@ -14,8 +14,8 @@ returns-in-Some g c =
       none = refl;
     }))
 
-pub returns-in-Err : goal.returns-in-Err
-returns-in-Err g c =
+pub returns-in-Err-clause-rolls : goal.returns-in-Err-clause-rolls
+returns-in-Err-clause-rolls g c =
     gains_none c.args.history c.args.history refl (inl (record {
       fault = c.in-Err.fault;
       because = c.in-Err.ensures.err;
@@ -25,8 +25,8 @@ returns-in-Err g c =
       none = refl;
     }))
 
-pub returns-in-Err-hold_journal : goal.returns-in-Err-hold_journal
-returns-in-Err-hold_journal g c =
+pub returns-in-Err-hold_journal-clause-rolls : goal.returns-in-Err-hold_journal-clause-rolls
+returns-in-Err-hold_journal-clause-rolls g c =
     gains_none c.args.history c.args.history refl (inl (record {
       fault = c.in-Err-hold_journal.fault;
       because = c.in-Err-hold_journal.ensures;
@@ -35,3 +35,12 @@ returns-in-Err-hold_journal g c =
       unwritten = Keeps-refl (g.W.Write.contents c.args.out.now);
       none = refl;
     }))
+
+pub returns-in-Some-clause-journal : goal.returns-in-Some-clause-journal
+returns-in-Some-clause-journal g c = gains_none c.args.history c.args.history refl (inl (refl, refl))
+
+pub returns-in-Err-clause-journal : goal.returns-in-Err-clause-journal
+returns-in-Err-clause-journal g c = gains_none c.args.history c.args.history refl (inl (refl, refl))
+
+pub returns-in-Err-hold_journal-clause-journal : goal.returns-in-Err-hold_journal-clause-journal
+returns-in-Err-hold_journal-clause-journal g c = gains_none c.args.history c.args.history refl (inl (refl, refl))

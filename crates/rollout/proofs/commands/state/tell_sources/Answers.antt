@@ -7,7 +7,7 @@ pub tell_texts-requires : goal.tell_texts-requires
 tell_texts-requires g c =
     omega (
       arith,
-      text_within (sources_of (g.S.System.files c.args.system.now) (g.I.Input.is_reliable c.args.input.now)) c.args.journal c.in-Ok.ensures.ok.between
+      text_within (sources_of (g.S.System.known c.args.system.now) (g.I.Input.is_reliable c.args.input.now)) c.args.journal c.in-Ok.ensures.ok.between
           (g.I.Read.remaining c.read_both.new.input) c.in-Ok.journal.items c.in-Ok.ensures.ok.is_playbook,
       ap length c.as_slice-journal.ensures.value,
     )
@@ -16,4 +16,4 @@ pub returns-in-Ok : goal.returns-in-Ok
 returns-in-Ok g c =
     let tells = rw (c.as_slice-inventory.ensures.value, c.as_slice-journal.ensures.value) at c.tell_texts.ensures.ok in
     let refuses = rw (c.as_slice-inventory.ensures.value, c.as_slice-journal.ensures.value) at c.tell_texts.ensures.err in
-    TellsState-of_texts c.args.standing.now.takes_others c.args.standing.now.goes_on _ _ _ _ _ _ _ c.in-Ok.inventory.items c.in-Ok.journal.items c.tell_texts.result c.in-Ok.ensures.ok tells refuses
+    TellsState-of_texts c.args.standing.now.takes_others c.args.standing.now.goes_on _ _ _ _ _ _ _ c.in-Ok.inventory.items c.in-Ok.journal.items c.tell_texts.result c.in-Ok.ensures.ok c.requires tells refuses
