@@ -122,7 +122,7 @@ _rollout() {
     command=${words[1]}
     case $command in
     limits) most=1 options=(--expect --from --up --changed-inputs --json -v --verbose -h --help) ;;
-    plan) most=2 options=(--course --failing --groups --color --picture --words --expect --from --up --changed-inputs --json -v --verbose -h --help) ;;
+    plan) most=2 options=(--forecast --failing --groups --color --picture --commands --expect --from --up --changed-inputs --json -v --verbose -h --help) ;;
     run) most=2 options=(--forks -v --verbose --quiet --stop-file --journal --resume --up --changed-inputs --lock-file --no-lock --strict --json -h --help) ;;
     rehearse) most=2 options=(--strict --from --up --changed-inputs --json -v --verbose -h --help) ;;
     state) most=2 options=(--changed-inputs -h --help) ;;

@@ -170,7 +170,7 @@ each_broken() {
     output_broken plan "$work/racks.json" "$work/all.json"
     output_broken limits "$work/racks.json" --from "$work/journal"
     output_broken plan "$work/racks.json" "$work/all.json" --from "$work/journal" --up d
-    output_broken plan "$work/racks.json" "$work/all.json" --from "$work/journal" --up all --course --failing b
+    output_broken plan "$work/racks.json" "$work/all.json" --from "$work/journal" --up all --forecast --failing b
     journal_broken "$size" limits "$work/racks.json"
     journal_broken "$((size + $(wc -c <"$work/all.json")))" plan "$work/racks.json" "$work/all.json"
     output_broken --version

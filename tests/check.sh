@@ -147,7 +147,7 @@ bad() {
 bad 'two files' check "$work/inventory.json" "$work/playbook.json"
 bad 'four files' check "$work/inventory.json" "$work/playbook.json" "$work/plan.txt" "$work/plan.txt"
 bad 'no file' check
-bad 'an option of plan' check --course "$work/inventory.json" "$work/playbook.json" "$work/plan.txt"
+bad 'an option of plan' check --forecast "$work/inventory.json" "$work/playbook.json" "$work/plan.txt"
 bad 'an expectation' check "$work/inventory.json" "$work/playbook.json" "$work/plan.txt" --expect batches=3
 
 if [ -w /dev/full ]; then

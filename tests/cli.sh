@@ -474,217 +474,190 @@ check 'the version' 0 "rollout 0.2.0$newline" ''
 run -V
 check 'the version by its letter' 0 "rollout 0.2.0$newline" ''
 
-help='Updates a fleet batch by batch, with no group losing more hosts at once than it may
+help='Update a fleet in batches, never exceeding a group'\''s limit of down hosts
 
 Usage: rollout <COMMAND>
 
 Commands:
-  limits    Prints each limited group: its members, how many are down, its limit and its room
-  plan      Prints the fewest batches that update the hosts of a play, and what forces their number
-  run       Updates the hosts of each play batch by batch, and prints what came of them
-  rehearse  Answers what a run of a play would come to if these hosts failed, command by command
-  state     Prints how each host stands by a run'\''s journal, and whether the run has ended
-  check     Tells whether a text is a plan of a play, and how many batches the least one has
-  lint      Prints every fault of the files with what helps, or else what is probably not meant
-  explain   Prints what a fault or a kind of notes means, with an example, and what to do
+  limits    Show each limited group: members, hosts down, limit, room
+  plan      Plan the fewest batches for the first play, and say what forces that number
+  run       Run the plays batch by batch, then print a recap
+  rehearse  Try out failures on the first play, interactively; run nothing
+  state     Show each host'\''s state from a run'\''s journal, and whether the run ended
+  check     Check a batch plan written elsewhere
+  lint      Report every error and probable mistake in the files
+  explain   Explain an error number or a lint rule, with an example and a fix
   help      Print this message or the help of the given subcommand(s)
 
 Options:
   -h, --help     Print help
   -V, --version  Print version
 
-INV is the inventory: a file of JSON that lists groups with their hosts, children and variables.
-PLAY is the playbook: a file of JSON that lists plays with their hosts and tasks.
-Without any word, rollout reads an inventory from standard input and prints its limits.
+INV is an inventory and PLAY a playbook, both JSON in Ansible'\''s layout.
+Without arguments, rollout reads an inventory from standard input and shows its limits.
 
 Exit status:
-  0  what was asked for was done
-  1  the line, an input or a write was refused
-  2  a run finished, and a host has failed
-  3  hosts wait in a group that has no room
-  4  a batch ended the run: too many of its hosts have failed, or all
-  5  want of memory
-  6  a run ended before its plays did: stopped, interrupted, or its journal is not written
-  7  a run goes on, by its journal
+  0  success
+  1  rejected arguments or input, I/O error, or findings of lint or check
+  2  a run finished with failed hosts
+  3  waiting hosts have no room
+  4  a batch ended the run: too many of its hosts failed, or all
+  5  out of memory
+  6  the run was stopped or interrupted, or its journal can'\''t be written
+  7  the run is still running (state)
 '
 for word in --help -h help; do
     run $word
     check "the help by $word" 0 "$help" ''
 done
-limits_help='Prints each limited group: its members, how many are down, its limit and its room
+
+# has_help COMMAND HELP: each way to ask for the help of the command prints this
+has_help() {
+    for words in "$1 --help" "$1 -h" "help $1"; do
+        run $words
+        check "the help by $words" 0 "$2" ''
+    done
+}
+has_help limits 'Show each limited group: members, hosts down, limit, room
 
 Usage: rollout limits [OPTIONS] <INV>
 
 Arguments:
-  <INV>  The inventory: a file of JSON that lists groups with their hosts, children and variables
+  <INV>  Inventory file (JSON)
 
 Options:
-      --expect <LIST>   Ends with status 1 where a number isn'\''t as this list says: NAME=NUMBER or NAME<=NUMBER, parted by commas
-      --from <JOURNAL>  Begins where the run of this journal stands, as --resume would have it go on
-      --up <HOSTS>      Beside --from these hosts and groups, parted by commas, are up by now
-      --changed-inputs  The inputs may be others than those with which the run of the journal began
-      --json            Prints it, and a fault, as JSON
-  -v, --verbose         Tells more on standard error: which hosts are left out, and behind a refusal what was expected
+      --expect <LIST>   Exit 1 unless the numbers match LIST: NAME=N or NAME<=N, comma-separated
+      --from <JOURNAL>  Count hosts as down by this run'\''s journal
+      --up <HOSTS>      With --from, count these hosts and groups as up (comma-separated)
+      --changed-inputs  With --from, accept an inventory that changed since the run started
+      --json            Print the table, and any error, as JSON
+  -v, --verbose         Add a hint to errors (default on a terminal)
   -h, --help            Print help
 '
-for words in 'limits --help' 'limits -h' 'help limits'; do
-    run $words
-    check "the help by $words" 0 "$limits_help" ''
-done
-
-plan_help='Prints the fewest batches that update the hosts of a play, and what forces their number
+has_help plan 'Plan the fewest batches for the first play, and say what forces that number
 
 Usage: rollout plan [OPTIONS] <INV> <PLAY>
 
 Arguments:
-  <INV>   The inventory: a file of JSON that lists groups with their hosts, children and variables
-  <PLAY>  The playbook: a file of JSON that lists plays with their hosts and tasks
+  <INV>   Inventory file (JSON)
+  <PLAY>  Playbook file (JSON)
 
 Options:
-      --course           Prints what a run would open to its end, play by play, where no program fails
-      --failing <HOSTS>  Beside --course these hosts and groups, parted by commas, fail at their first step
-      --groups           Prints below it how many hosts of each limited group are down while each batch runs
-      --color <WHEN>     Colours groups that are full: auto (at a terminal, unless NO_COLOR is set), always or never
-      --picture <FILE>   Writes the course as a picture, in SVG, into this file
-      --words            Prints in its place which words each step would run on which host
-      --expect <LIST>    Ends with status 1 where a number isn'\''t as this list says: NAME=NUMBER or NAME<=NUMBER, parted by commas
-      --from <JOURNAL>   Begins where the run of this journal stands, as --resume would have it go on
-      --up <HOSTS>       Beside --from these hosts and groups, parted by commas, are up by now
-      --changed-inputs   The inputs may be others than those with which the run of the journal began
-      --json             Prints it, and a fault, as JSON
-  -v, --verbose          Tells more on standard error: which hosts are left out, and behind a refusal what was expected
+      --forecast         Forecast a whole run, play by play, if no host fails
+      --failing <HOSTS>  With --forecast, fail these hosts and groups at their first step (comma-separated)
+      --groups           Also show how many hosts of each limited group are down in each batch
+      --color <WHEN>     Color groups at their limit: auto (default), always or never
+      --picture <FILE>   Draw the forecast as SVG into FILE
+      --commands         Print the command each step would run on each host, instead of the plan
+      --expect <LIST>    Exit 1 unless the plan matches LIST: batches=N or batches<=N
+      --from <JOURNAL>   Plan what `run --resume JOURNAL` would do
+      --up <HOSTS>       With --from, count these hosts and groups as up (comma-separated)
+      --changed-inputs   With --from, accept inputs that changed since the run started
+      --json             Print the plan, and any error, as JSON
+  -v, --verbose          Name skipped hosts, and add a hint to errors (default on a terminal)
   -h, --help             Print help
 '
-for words in 'plan --help' 'plan -h' 'help plan'; do
-    run $words
-    check "the help by $words" 0 "$plan_help" ''
-done
-
-run_help='Updates the hosts of each play batch by batch, and prints what came of them
+has_help run 'Run the plays batch by batch, then print a recap
 
 Usage: rollout run [OPTIONS] <INV> <PLAY>
 
 Arguments:
-  <INV>   The inventory: a file of JSON that lists groups with their hosts, children and variables
-  <PLAY>  The playbook: a file of JSON that lists plays with their hosts and tasks
+  <INV>   Inventory file (JSON)
+  <PLAY>  Playbook file (JSON)
 
 Options:
-      --forks <N>         How many hosts are worked on at once, 1 to 64 [default: 5]
-  -v, --verbose           Tells on standard error of each batch, and of each step of each host
-      --quiet             Tells nothing unasked, also at a terminal; beside -v it changes nothing
-      --stop-file <FILE>  Ends the run before the next batch once this file is there
-      --journal <FILE>    Keeps in this new file what becomes of each host, before and behind each batch
-      --resume <JOURNAL>  Goes on with the run of this journal, which broke off, and keeps it there
-      --up <HOSTS>        These hosts and groups, parted by commas, are up by now, though the inventory or the journal has them as down
-      --changed-inputs    Beside --resume the inputs may be others than those with which the run began
-      --lock-file <FILE>  Lock this file, made if missing, instead of the inventory, to keep a second run out
-      --no-lock           Lock nothing: another run of the inventory isn'\''t kept out
-      --strict            Runs nothing where a step may look for a name that has no value on a host
-      --json              Prints it, and a fault, as JSON
+      --forks <N>         Work on up to N hosts at once, 1 to 64 [default: 5]
+  -v, --verbose           Report every batch and step on standard error
+      --quiet             Show no progress, even on a terminal (-v overrides)
+      --stop-file <FILE>  Stop before the next batch once FILE exists
+      --journal <FILE>    Record each host'\''s state in a new FILE, before and after each batch
+      --resume <JOURNAL>  Continue the run recorded in JOURNAL, and append to it
+      --up <HOSTS>        Count these hosts and groups as up, despite inventory or journal (comma-separated)
+      --changed-inputs    With --resume, accept inputs that changed since the run started
+      --lock-file <FILE>  Lock FILE, made if missing, instead of the inventory, to keep out a second run
+      --no-lock           Lock nothing: a second run of the inventory isn'\''t kept out
+      --strict            Run nothing if a step might read an undefined name
+      --json              Print the recap, and any error, as JSON
   -h, --help              Print help
 '
-for words in 'run --help' 'run -h' 'help run'; do
-    run $words
-    check "the help by $words" 0 "$run_help" ''
-done
-
-rehearse_help='Answers what a run of a play would come to if these hosts failed, command by command
+has_help rehearse 'Try out failures on the first play, interactively; run nothing
 
 Usage: rollout rehearse [OPTIONS] <INV> <PLAY>
 
 Arguments:
-  <INV>   The inventory: a file of JSON that lists groups with their hosts, children and variables
-  <PLAY>  The playbook: a file of JSON that lists plays with their hosts and tasks
+  <INV>   Inventory file (JSON)
+  <PLAY>  Playbook file (JSON)
 
 Options:
-      --strict          Ends with status 1 where a command was refused
-      --from <JOURNAL>  Begins where the run of this journal stands, as --resume would have it go on
-      --up <HOSTS>      Beside --from these hosts and groups, parted by commas, are up by now
-      --changed-inputs  The inputs may be others than those with which the run of the journal began
-      --json            Prints it, and a fault, as JSON
-  -v, --verbose         Tells more on standard error: which hosts are left out, and behind a refusal what was expected
+      --strict          Exit 1 if a command was refused
+      --from <JOURNAL>  Start where `run --resume JOURNAL` would continue
+      --up <HOSTS>      With --from, count these hosts and groups as up (comma-separated)
+      --changed-inputs  With --from, accept inputs that changed since the run started
+      --json            Print each answer, and any error, as JSON
+  -v, --verbose         Add a hint to errors (default on a terminal)
   -h, --help            Print help
 
-Standard input has a command a line, about the first play of PLAY. Nothing is run.
-  advance [HOST ..]  the next batch is over, and of it just these hosts failed
-  next N             the next N batches are over, and just the marked hosts failed in them
-  finish             the same of all batches, to the end of the play
-  fail HOST          marks a host, which then fails as soon as its batch is over
-  undo               takes the last of these back, whole
-  plan               the plan of the hosts that still wait
-  show               how each host stands, and whether the play has ended
-  hosts GROUP        how each host of a group stands, and its batch in the plan
-  help, quit         the list of commands; the end of the session
+Commands on standard input, one per line:
+  advance [HOST ..]  finish the next batch; these hosts and the marked ones fail
+  next N             finish the next N batches; only marked hosts fail
+  finish             finish all batches; only marked hosts fail
+  fail HOST          mark a host to fail in its batch
+  undo               undo the last advance, next, finish or fail
+  plan               print the plan for the hosts still waiting
+  show               print each host'\''s state, and how the play ended, if it did
+  hosts GROUP        print each host of a group, its state and its batch
+  help, quit         list these commands; end the session
 '
-for words in 'rehearse --help' 'rehearse -h' 'help rehearse'; do
-    run $words
-    check "the help by $words" 0 "$rehearse_help" ''
-done
-
-state_help="Prints how each host stands by a run's journal, and whether the run has ended
+has_help state 'Show each host'\''s state from a run'\''s journal, and whether the run ended
 
 Usage: rollout state [OPTIONS] <INV> <JOURNAL>
 
 Arguments:
-  <INV>      The inventory: a file of JSON that lists groups with their hosts, children and variables
-  <JOURNAL>  The journal: what a run has written of itself
+  <INV>      Inventory file (JSON) that the run started with
+  <JOURNAL>  Journal of the run
 
 Options:
-      --changed-inputs  The inputs may be others than those with which the run of the journal began
+      --changed-inputs  Accept an inventory that changed since the run started
   -h, --help            Print help
-"
-for words in 'state --help' 'state -h' 'help state'; do
-    run $words
-    check "the help by $words" 0 "$state_help" ''
-done
-
-check_help='Tells whether a text is a plan of a play, and how many batches the least one has
+'
+has_help check 'Check a batch plan written elsewhere
 
 Usage: rollout check <INV> <PLAY> <PLAN>
 
 Arguments:
-  <INV>   The inventory: a file of JSON that lists groups with their hosts, children and variables
-  <PLAY>  The playbook: a file of JSON that lists plays with their hosts and tasks
-  <PLAN>  The plan: a file with a batch a line, as rollout plan prints it
+  <INV>   Inventory file (JSON)
+  <PLAY>  Playbook file (JSON)
+  <PLAN>  Plan file: one batch of host names per line, as `rollout plan` prints
 
 Options:
   -h, --help  Print help
 '
-for words in 'check --help' 'check -h' 'help check'; do
-    run $words
-    check "the help by $words" 0 "$check_help" ''
-done
-
-lint_help='Prints every fault of the files with what helps, or else what is probably not meant
+has_help lint 'Report every error and probable mistake in the files
 
 Usage: rollout lint [OPTIONS] <INV> [PLAY]
 
 Arguments:
-  <INV>   The inventory: a file of JSON that lists groups with their hosts, children and variables
-  [PLAY]  The playbook: a file of JSON that lists plays with their hosts and tasks
+  <INV>   Inventory file (JSON)
+  [PLAY]  Playbook file (JSON)
 
 Options:
-      --allow <NAMES>  These kinds of notes, parted by commas, are not told
+      --allow <NAMES>  Suppress these lint rules (comma-separated)
   -h, --help           Print help
 '
-for words in 'lint --help' 'lint -h' 'help lint'; do
-    run $words
-    check "the help by $words" 0 "$lint_help" ''
-done
+has_help explain 'Explain an error number or a lint rule, with an example and a fix
 
-explain_help='Prints what a fault or a kind of notes means, with an example, and what to do
-
-Usage: rollout explain <NUMBER|KIND>
+Usage: rollout explain <NUMBER|RULE>
 
 Arguments:
-  <NUMBER|KIND>  The number of a fault, or the kind of a note of lint
+  <NUMBER|RULE>  Error number such as 302, or lint rule such as idle-step
 
 Options:
   -h, --help  Print help
 '
-for words in 'explain --help' 'explain -h' 'help explain'; do
-    run $words
-    check "the help by $words" 0 "$explain_help" ''
+# A terminal of 110 columns shows each line of a help on one of its own.
+for command in '' limits plan run rehearse state check lint explain; do
+    run help $command
+    if grep -q '.\{111\}' "$work/out"; then fail "a line of the help of '$command' is too wide"; else pass; fi
 done
 
 # bad WORDS USAGE EXPLANATION: the words are no line
@@ -726,7 +699,7 @@ lacks resume JOURNAL 'run a b'
 lacks resume JOURNAL 'run a b --resume c'
 lacks up HOSTS 'run a b'
 lacks up HOSTS 'run a b --resume c'
-lacks failing HOSTS 'plan a b --course'
+lacks failing HOSTS 'plan a b --forecast'
 lacks color WHEN 'plan a b'
 lacks picture FILE 'plan a b'
 lacks from JOURNAL 'plan a b'
@@ -750,31 +723,31 @@ for words in '--resume c --journal d' '--journal d --resume c' '--journal=d --re
     apart "--journal doesn't go with --resume: a run that goes on is kept in the journal that --resume names" "run a b $words"
 done
 for words in '--failing c' '--failing c --from d'; do
-    apart '--failing goes with --course' "plan a b $words"
+    apart '--failing goes with --forecast' "plan a b $words"
 done
-for words in 'plan a b --up c' 'plan a b --course --up c' 'rehearse a b --up c' 'limits a --up c'; do
+for words in 'plan a b --up c' 'plan a b --forecast --up c' 'rehearse a b --up c' 'limits a --up c'; do
     apart '--up goes with run, and else with --from' "$words"
 done
 for words in 'plan a b' 'rehearse a b' 'limits a'; do
     apart '--changed-inputs goes with --resume, with --from and with state' "$words --changed-inputs"
     apart '--changed-inputs goes with --resume, with --from and with state' "$words --up=c --changed-inputs"
 done
-for words in '--from c --groups' '--from c --picture d' '--course --groups --from c' '--groups --picture d --from=c'; do
+for words in '--from c --groups' '--from c --picture d' '--forecast --groups --from c' '--groups --picture d --from=c'; do
     apart "--from doesn't go with --groups and --picture" "plan a b $words"
 done
-for words in '--words --course' '--words --groups' '--words --picture c' '--from c --words' '--words --expect batches=1'; do
-    apart "--words doesn't go with --course, --groups, --picture, --from and --expect" "plan a b $words"
+for words in '--commands --forecast' '--commands --groups' '--commands --picture c' '--from c --commands' '--commands --expect batches=1'; do
+    apart "--commands doesn't go with --forecast, --groups, --picture, --from and --expect" "plan a b $words"
 done
-for words in 'plan a b --expect batches=1 --course' 'plan a b --expect x --groups' 'plan a b --expect batches=1 --picture c' 'plan a b --from c --expect=batches=1' 'limits a --expect hosts=1 --from c'; do
-    apart "--expect doesn't go with --course, --groups, --picture and --from" "$words"
+for words in 'plan a b --expect batches=1 --forecast' 'plan a b --expect x --groups' 'plan a b --expect batches=1 --picture c' 'plan a b --from c --expect=batches=1' 'limits a --expect hosts=1 --from c'; do
+    apart "--expect doesn't go with --forecast, --groups, --picture and --from" "$words"
 done
-for words in --groups '--picture c' --words '--expect batches=1' '--from c'; do
-    apart "--json doesn't go with --groups, --picture, --from, --expect and --words" "plan a b --json $words"
+for words in --groups '--picture c' --commands '--expect batches=1' '--from c'; do
+    apart "--json doesn't go with --groups, --picture, --from, --expect and --commands" "plan a b --json $words"
 done
 for words in '--expect hosts=1' '--from c'; do
-    apart "--json doesn't go with --groups, --picture, --from, --expect and --words" "limits a $words --json"
+    apart "--json doesn't go with --groups, --picture, --from, --expect and --commands" "limits a $words --json"
 done
-apart "--json doesn't go with --groups, --picture, --from, --expect and --words" 'rehearse a b --json --from c'
+apart "--json doesn't go with --groups, --picture, --from, --expect and --commands" 'rehearse a b --json --from c'
 for words in '--resume c' '--up c'; do
     apart "--strict of a run doesn't go with --resume and --up" "run a b --strict $words"
 done
@@ -782,7 +755,7 @@ for words in --color= --color=red '--color Always' '--groups --color on'; do
     apart '--color has the values auto, always and never' "plan a b $words"
 done
 # Where several rules are broken, the first is told.
-apart '--failing goes with --course' 'plan a b --failing c --up d --json --words'
+apart '--failing goes with --forecast' 'plan a b --failing c --up d --json --commands'
 apart "--from doesn't go with --groups and --picture" 'plan a b --json --color red --from c --groups'
 
 # read_by WORDS NAME: the words are a line, by which this file is missing
@@ -798,7 +771,7 @@ read_by 'run --up --changed-inputs a b' a
 read_by 'run --no-lock --stop-file --no-lock a --no-lock b' a
 read_by "run --lock-file --no-lock a --lock-file=$work/c b" a
 read_by 'run --resume --resume --up --up a b --changed-inputs --' a
-read_by 'plan --failing --course --course a b' a
+read_by 'plan --failing --forecast --forecast a b' a
 read_by 'plan --picture --failing a b' a
 read_by 'plan --picture --groups a b' a
 read_by 'plan a b --color=always' a
@@ -810,11 +783,11 @@ read_by 'limits --from --changed-inputs a' a
 read_by 'limits --from=b --up= --changed-inputs --changed-inputs a' a
 read_by 'limits -- --from' --from
 read_by 'limits --expect hosts=1 --expect=limited=1 a' a
-read_by 'plan --words a --color never b --words' a
+read_by 'plan --commands a --color never b --commands' a
 read_by 'plan a --expect batches=1 b' a
 read_by 'check a b c' a
 read_by 'run --strict a b --no-lock --strict' a
-read_by 'check -- --words b c' --words
+read_by 'check -- --commands b c' --commands
 read_by 'state --changed-inputs --changed-inputs a b' a
 read_by 'state -- --changed-inputs b' --changed-inputs
 # helped WORDS: the words are a line, by which the file `a` is missing, and one line behind that says more
@@ -826,7 +799,7 @@ helped() {
         fail "the line '$1': status $status, $(head -n 3 "$work/errors")"
     fi
 }
-for words in 'limits -v a --verbose' 'plan --words a --color never b --words -v' 'plan -v a b' 'rehearse a --verbose b --strict -v' 'run -v a b'; do
+for words in 'limits -v a --verbose' 'plan --commands a --color never b --commands -v' 'plan -v a b' 'rehearse a --verbose b --strict -v' 'run -v a b'; do
     helped "$words"
 done
 bad 'run --journal --resume c a b' 'rollout run [OPTIONS] <INV> <PLAY>' "unexpected argument 'b' found"
@@ -855,15 +828,15 @@ bad 'state a b c' 'rollout state [OPTIONS] <INV> <JOURNAL>' "unexpected argument
 bad check 'rollout check <INV> <PLAY> <PLAN>' "the following required arguments were not provided:$newline  <INV>$newline  <PLAY>$newline  <PLAN>"
 bad 'check a b' 'rollout check <INV> <PLAY> <PLAN>' "the following required arguments were not provided:$newline  <PLAN>"
 bad 'check a b c d' 'rollout check <INV> <PLAY> <PLAN>' "unexpected argument 'd' found"
-bad 'check a b c --words' 'rollout check <INV> <PLAY> <PLAN>' "unexpected argument '--words' found"
-bad explain 'rollout explain <NUMBER|KIND>' "the following required arguments were not provided:$newline  <NUMBER|KIND>"
-bad 'explain 1 2' 'rollout explain <NUMBER|KIND>' "unexpected argument '2' found"
+bad 'check a b c --commands' 'rollout check <INV> <PLAY> <PLAN>' "unexpected argument '--commands' found"
+bad explain 'rollout explain <NUMBER|RULE>' "the following required arguments were not provided:$newline  <NUMBER|RULE>"
+bad 'explain 1 2' 'rollout explain <NUMBER|RULE>' "unexpected argument '2' found"
 run explain 1
 [ "$status" -eq 1 ] && [ ! -s "$work/out" ] && [ "$(wc -l <"$work/errors")" -eq 2 ] && [ "$(head -n 1 "$work/errors")" = 'rollout: 901 BadLine' ] && pass || fail "the line 'explain 1': $(cat "$work/errors")"
 bad 'rehearse a b --expect batches=1' 'rollout rehearse <INV> <PLAY>' "unexpected argument '--expect' found"
-bad 'plan -- a b --words' 'rollout plan [OPTIONS] <INV> <PLAY>' "unexpected argument '--words' found"
+bad 'plan -- a b --commands' 'rollout plan [OPTIONS] <INV> <PLAY>' "unexpected argument '--commands' found"
 bad 'limits -- a --expect b' 'rollout limits [OPTIONS] <INV>' "unexpected argument '--expect' found"
-bad 'plan a b --words=all' 'rollout plan --words <INV> <PLAY>' "unexpected value 'all' for '--words' found; no more were expected"
+bad 'plan a b --commands=all' 'rollout plan --commands <INV> <PLAY>' "unexpected value 'all' for '--commands' found; no more were expected"
 bad '--forks 3' 'rollout <COMMAND>' "unexpected argument '--forks' found"
 run "$(printf '\377')"
 check 'a word that is no text' 1 '' "rollout: 901 BadLine$newline"

@@ -50,7 +50,7 @@ all | true; rollout pl<Tab> | true; rollout plan _
 all | rollout nosuch i<Tab> | rollout nosuch i_
 all | rollout --v<Tab> | rollout --version _
 all | rollout plan --gr<Tab>inv.json pl<Tab> | rollout plan --groups inv.json play.json _
-all | rollout plan inv.json play.json --cour<Tab> | rollout plan inv.json play.json --course _
+all | rollout plan inv.json play.json --fore<Tab> | rollout plan inv.json play.json --forecast _
 all | rollout run --j<Tab> | /--journal/--json
 bash fish | rollout run --jo<Tab>n<Tab> | rollout run --journal notes.txt _
 zsh | rollout run --jo<Tab>n<Tab> | rollout run --journal=notes.txt _
@@ -62,7 +62,7 @@ all | rollout limits --from n<Tab> | rollout limits --from notes.txt _
 all | rollout plan --picture c<Tab> | rollout plan --picture course.svg _
 all | rollout plan --picture=c<Tab> | rollout plan --picture=course.svg _
 all | rollout plan --failing w<Tab> | rollout plan --failing w_
-all | rollout plan inv.json play.json --failing s<Tab> --cour<Tab> | rollout plan inv.json play.json --failing store --course _
+all | rollout plan inv.json play.json --failing s<Tab> --fore<Tab> | rollout plan inv.json play.json --failing store --forecast _
 all | rollout plan inv.json play.json --failing web<Tab> | /web/web1/web2
 all | rollout plan inv.json play.json --failing <Tab> | /all/d1/store/web/web1/web2
 all | rollout plan inv.json --failing n<Tab> | rollout plan inv.json --failing n_
@@ -71,7 +71,7 @@ all | rollout run inv.json --up=web1,d<Tab> p<Tab> | rollout run inv.json --up=w
 all | rollout rehearse "two words.json" --up d<Tab> p<Tab> | rollout rehearse "two words.json" --up d1 play.json _
 all | rollout limits two\ words.json --up s<Tab> --j<Tab> | rollout limits two\ words.json --up store --json _
 all | rollout plan sub/deep.json --up web1,web2,w<Tab> p<Tab> | rollout plan sub/deep.json --up web1,web2,web play.json _
-all | rollout plan --course --failing web1 inv.json p<Tab> | rollout plan --course --failing web1 inv.json play.json _
+all | rollout plan --forecast --failing web1 inv.json p<Tab> | rollout plan --forecast --failing web1 inv.json play.json _
 all | rollout plan --color <Tab> | /always/auto/never
 all | rollout plan --color n<Tab>i<Tab> | rollout plan --color never inv.json _
 all | rollout plan --color=al<Tab> | rollout plan --color=always _

@@ -1,5 +1,5 @@
 #!/bin/sh
-# What a run would open to its end, as `plan --course` prints it before anything runs: worked courses in full text. Drawn ones stand in tests/drawn.sh, beside the slow program and beside
+# What a run would open to its end, as `plan --forecast` prints it before anything runs: worked courses in full text. Drawn ones stand in tests/drawn.sh, beside the slow program and beside
 # runs. It needs crates/rollout/out/rollout and Python.
 . "$(dirname "$0")/common.sh"
 quietly
@@ -12,7 +12,7 @@ course() {
     printf '%s' "$4" >"$work/playbook.json"
     text=$5
     shift 5
-    run plan "$work/inventory.json" "$work/playbook.json" --course "$@"
+    run plan "$work/inventory.json" "$work/playbook.json" --forecast "$@"
     check "$what" "$ends" "$text$newline" ''
 }
 
@@ -23,7 +23,7 @@ unforeseen() {
     printf '%s' "$3" >"$work/playbook.json"
     line=$4
     shift 4
-    run plan "$work/inventory.json" "$work/playbook.json" --course "$@"
+    run plan "$work/inventory.json" "$work/playbook.json" --forecast "$@"
     check "$what" 1 '' "$line$newline"
 }
 
@@ -147,7 +147,7 @@ unforeseen 'and those of its patterns' "$three" '[{"hosts":"z","tasks":[{"comman
 # Who is left out is told of all plays.
 printf '{"all":{"hosts":{"a":{"down":true},"b":{}}}}' >"$work/inventory.json"
 printf '[{"hosts":"b","tasks":[{"command":"true"}]},%s]' "$(play)" >"$work/playbook.json"
-run plan "$work/inventory.json" "$work/playbook.json" --course -v
+run plan "$work/inventory.json" "$work/playbook.json" --forecast -v
 check 'who is left out of a later play' 0 'play 1
 boundary 1: plan batches=1 bound=one-host
 open: b
@@ -170,11 +170,11 @@ boundary 2: plan batches=0 bound=nothing
 end finished
 batches=1
 '
-run plan --course "$work/inventory.json" --course "$work/playbook.json"
+run plan --forecast "$work/inventory.json" --forecast "$work/playbook.json"
 check 'the option before the files, and twice' 0 "$all" ''
-run plan --failing a "$work/inventory.json" "$work/playbook.json" --course
+run plan --failing a "$work/inventory.json" "$work/playbook.json" --forecast
 check 'names before it' 2 "$all" ''
-run plan "$work/inventory.json" "$work/playbook.json" -v --course
+run plan "$work/inventory.json" "$work/playbook.json" -v --forecast
 check 'beside -v' 0 "$all" ''
 bad() {
     what=$1
@@ -184,13 +184,13 @@ bad() {
 }
 bad 'names without a course' plan "$work/inventory.json" "$work/playbook.json" --failing a
 bad 'names without a course, behind a sign' plan --failing=a "$work/inventory.json" "$work/playbook.json"
-bad 'an option without its names' plan "$work/inventory.json" "$work/playbook.json" --course --failing
-bad 'a course of a run' run "$work/inventory.json" "$work/playbook.json" --course
-bad 'a course of one file' plan "$work/inventory.json" --course
-bad 'behind the word that ends options' plan "$work/inventory.json" "$work/playbook.json" -- --course
+bad 'an option without its names' plan "$work/inventory.json" "$work/playbook.json" --forecast --failing
+bad 'a course of a run' run "$work/inventory.json" "$work/playbook.json" --forecast
+bad 'a course of one file' plan "$work/inventory.json" --forecast
+bad 'behind the word that ends options' plan "$work/inventory.json" "$work/playbook.json" -- --forecast
 
 if [ -w /dev/full ]; then
-    "$rollout" plan "$work/inventory.json" "$work/playbook.json" --course >/dev/full 2>"$work/errors"
+    "$rollout" plan "$work/inventory.json" "$work/playbook.json" --forecast >/dev/full 2>"$work/errors"
     status=$?
     : >"$work/out"
     check 'an output that takes nothing' 1 '' "rollout: 904 Write written=0$newline"

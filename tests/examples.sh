@@ -83,7 +83,7 @@ LOST: one failure, of db2: status 4'
 # Two of its rack are down, which is as many as may be.
 changed 'one host more that is down' fleet.json 's/"worker3": null/"worker3": { "down": true }/' 'LOST: the plan: status 3
 LOST: the plan that was agreed on: status 1
-LOST: the course: status 3'
+LOST: the forecast: status 3'
 changed 'a host more' fleet.json 's/"web30": null/&, "web31": null/' 'rollout: 907 Unexpected name=hosts expected=40 found=41
 LOST: the limits: status 1
 missing host=web31
@@ -137,7 +137,7 @@ JOBS
     cp "$work/said" "$work/commands"
     cat >"$work/job" <<'JOB'
 unset ROLLOUT
-cd "$1" && PATH=$2:$PATH sh -e "$3" && grep -q '</svg>' course.svg
+cd "$1" && PATH=$2:$PATH sh -e "$3" && grep -q '</svg>' forecast.svg
 JOB
     holds 'the commands of the jobs' sh "$work/job" "$work/repository" "$work/bin" "$work/commands"
 else

@@ -166,7 +166,7 @@ bad 'of a run' run "$work/inventory.json" "$work/playbook.json" --expect batches
 bad 'of a rehearsal' rehearse "$work/inventory.json" "$work/playbook.json" --expect batches=1
 bad 'of a state' state "$work/inventory.json" "$top/examples/killed.journal" --expect hosts=1
 bad 'behind the word that ends options' limits "$work/inventory.json" -- --expect=hosts=1
-for words in '--course' '--course --failing a' '--groups' "--picture $work/picture.svg" '--words' "--from $top/examples/killed.journal"; do
+for words in '--forecast' '--forecast --failing a' '--groups' "--picture $work/picture.svg" '--commands' "--from $top/examples/killed.journal"; do
     # shellcheck disable=SC2086
     bad "a plan beside $words" plan "$work/inventory.json" "$work/playbook.json" --expect batches=1 $words
 done

@@ -73,7 +73,7 @@ run explain undefined-nam
 check 'a word that is nearly a kind' 1 '' "rollout: 901 BadLine${newline}error: explain goes with the number of a fault, as 302, or a kind of notes: $(echo $kinds | sed 's/ /, /g')$newline"
 bad 'no number' explain
 bad 'two numbers' explain 301 302
-bad 'an option of another command' explain 301 --course
+bad 'an option of another command' explain 301 --forecast
 bad 'behind the word that ends options, two numbers' explain -- 301 302
 run explain -- 301
 check 'behind the word that ends options' 0 "$(entry 301 "$faults")$newline" ''

@@ -46,7 +46,7 @@ end finished
 eu  3 0/3 2/3 2/3 1/3
 r1* 1 0/1 1/1 1/1 1/1
 r2  2 0/2 1/2 1/2 0/2
-batches=3' --course
+batches=3' --forecast
 
 red=$(printf '\033[1;31m')
 bare=$(printf '\033[0m')
@@ -98,7 +98,7 @@ boundary 5: plan batches=0 bound=nothing
 end finished
       now   1   2   3   4
 all 6 0/6 1/6 2/6 4/6 3/6
-batches=4' --course
+batches=4' --forecast
 
 groups 'a plan has the first size throughout; where no group forces the number none is marked' 0 "$sixty" "[$(play '"serial":[5,1]')]" 'plan batches=2 bound=group all waiting=10 room=6
 batch 1: h0 h2 h4 h6 h8
@@ -152,7 +152,7 @@ r1* 1 0/1 1/1 1/1
 r2  2 0/2 1/2 1/2
 held b: r1
 held c: r1
-batches=2' --course --failing a
+batches=2' --forecast --failing a
 
 groups 'a course that is blocked from the start' 3 "$down" "[$(play)]" 'boundary 1: blocked group=r1 waiting=2
 end blocked group=r1
@@ -161,7 +161,7 @@ eu 3 1/3
 r1 1 1/1
 r2 2 0/2
 down: a
-batches=0' --course
+batches=0' --forecast
 
 two='{"all":{"children":{"g":{"vars":{"max_down":2},"hosts":{"a":{},"b":{},"c":{}}}}}}'
 groups 'each play has a table, and who failed in an earlier one is down at its beginning' 2 "$two" "[$(play),$(play)]" 'play 1
@@ -183,7 +183,7 @@ end finished
      now   1   2
 g* 2 1/2 2/2 2/2
 down: a
-batches=4' --failing a --course
+batches=4' --failing a --forecast
 
 groups 'no play has a table that would not be begun' 4 "$two" "[$(play '"serial":1'),$(play)]" 'play 1
 boundary 1: plan batches=3 bound=serial waiting=3 size=1
@@ -192,7 +192,7 @@ boundary 2: plan batches=2 bound=group g waiting=2 room=1
 end all-failed
     now   1
 g 2 0/2 1/2
-batches=1' --course --failing a
+batches=1' --forecast --failing a
 
 groups 'the widest cell, limit and name decide' 0 '{"all":{"children":{"big":{"vars":{"max_down":10},"hosts":{"a0":{},"a1":{},"a2":{},"a3":{},"a4":{},"a5":{},"a6":{},"a7":{},"a8":{},"a9":{}}},"s":{"vars":{"max_down":2},"hosts":{"b0":{},"b1":{}}}}}}' "[$(play)]" 'plan batches=1 bound=group big waiting=10 room=10
 batch 1: a0 a1 a2 a3 a4 a5 a6 a7 a8 a9 b0 b1
@@ -215,7 +215,7 @@ boundary 2: plan batches=0 bound=nothing
 end finished
 no limited group
 down: a
-batches=1' --course
+batches=1' --forecast
 
 # tabled WHAT STATUS INVENTORY PLAYBOOK TEXT: the lines below those of the plan are these.
 tabled() {
@@ -284,7 +284,7 @@ bad 'colours without a time' plan "$work/inventory.json" "$work/playbook.json" -
 bad 'colours at an empty time' plan "$work/inventory.json" "$work/playbook.json" --groups --color=
 bad 'colours of a rehearsal' rehearse "$work/inventory.json" "$work/playbook.json" --color=never
 bad 'names without a course' plan "$work/inventory.json" "$work/playbook.json" --groups --failing a
-bad 'the option as the name that fails' plan "$work/inventory.json" "$work/playbook.json" --course --failing
+bad 'the option as the name that fails' plan "$work/inventory.json" "$work/playbook.json" --forecast --failing
 
 # refused WHAT LINE WORD..: this fault is told, and nothing is printed.
 refused() {
@@ -296,13 +296,13 @@ refused() {
 }
 printf '[{"hosts":"z","tasks":[{"command":"true"}]}]' >"$work/nobody.json"
 refused 'a name in a pattern that nobody has' 'rollout: 304 NoSuchName name=z' plan "$work/inventory.json" "$work/nobody.json" --groups
-refused 'a name that is to fail and that nobody has' 'rollout: 304 NoSuchName name=--groups' plan "$work/inventory.json" "$work/playbook.json" --course --failing --groups
+refused 'a name that is to fail and that nobody has' 'rollout: 304 NoSuchName name=--groups' plan "$work/inventory.json" "$work/playbook.json" --forecast --failing --groups
 printf '{"all":{"vars":{"max_down":0},"hosts":{"a":{"down":true}}}}' >"$work/over.json"
 refused 'a group over its limit at the start' 'rollout: 302 StartOver group=all down=1 limit=0' plan "$work/over.json" "$work/playbook.json" --groups
 refused 'a file that is not there' "rollout: 902 File name=$work/missing.json" plan "$work/inventory.json" "$work/missing.json" --groups
 
 if [ -w /dev/full ]; then
-    for words in '' --course; do
+    for words in '' --forecast; do
         # shellcheck disable=SC2086
         "$rollout" plan "$work/inventory.json" "$work/playbook.json" --groups $words >/dev/full 2>"$work/errors"
         status=$?

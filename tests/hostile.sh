@@ -237,9 +237,9 @@ printf '[{"hosts":"all","serial":1,"tasks":[{"command":"echo out","register":"r"
 at_a_time 'a table' limits "$work/some.json"
 at_a_time 'a plan' plan "$work/some.json" "$work/said.json"
 at_a_time 'a run' run "$work/some.json" "$work/said.json"
-at_a_time 'a course' plan "$work/some.json" "$work/said.json" --course --failing b
+at_a_time 'a course' plan "$work/some.json" "$work/said.json" --forecast --failing b
 at_a_time 'groups' plan "$work/some.json" "$work/said.json" --groups
-at_a_time 'words' plan "$work/some.json" "$work/said.json" --words
+at_a_time 'words' plan "$work/some.json" "$work/said.json" --commands
 at_a_time 'a plan for programs' plan "$work/some.json" "$work/said.json" --json
 at_a_time 'notes' lint "$work/some.json" "$work/skips.json"
 printf '{"all":{"x":1,"y":2}}' >"$work/faulty.json"
@@ -277,9 +277,9 @@ far=$(fewer 40 200)
 printf '%s' "$racks" >"$work/two.json"
 printf '[{"hosts":"all","tasks":[{"command":{"argv":["sh","-c","test {{ inventory_hostname }} != a"]}}]}]' >"$work/fails.json"
 cut $each run "$work/two.json" "$work/fails.json"
-cut $far plan "$work/two.json" "$work/true.json" --course --failing a
+cut $far plan "$work/two.json" "$work/true.json" --forecast --failing a
 cut $far plan "$work/two.json" "$work/true.json" --groups
-cut $far plan "$work/two.json" "$work/true.json" --words
+cut $far plan "$work/two.json" "$work/true.json" --commands
 cut $far lint "$work/faulty.json" "$work/true.json"
 cut 7 check "$work/some.json" "$work/said.json" "$work/plan.txt"
 cut 7 state "$work/one.json" "$work/whole.journal"
@@ -311,11 +311,11 @@ answer="plan batches=1 bound=one-host${newline}batch 1: a$newline"
 closed plan "$work/one.json" "$work/true.json"
 echo a >"$work/plan.txt"
 answer="boundary 1: plan batches=1 bound=one-host${newline}open: a${newline}boundary 2: plan batches=0 bound=nothing${newline}end finished${newline}batches=1$newline"
-closed plan "$work/one.json" "$work/true.json" --course
+closed plan "$work/one.json" "$work/true.json" --forecast
 answer="plan batches=1 bound=one-host${newline}batch 1: a${newline}no limited group$newline"
 closed plan "$work/one.json" "$work/true.json" --groups
 answer="a step=1 runs: true$newline"
-closed plan "$work/one.json" "$work/true.json" --words
+closed plan "$work/one.json" "$work/true.json" --commands
 answer="valid batches=1 least=1$newline"
 closed check "$work/one.json" "$work/true.json" "$work/plan.txt"
 answer="notes=0$newline"
@@ -357,9 +357,9 @@ for command in plan run rehearse; do
     cut_at_8_kib "$command" "$work/hosts.json" "$work/skips.json"
 done
 input=/dev/null
-cut_at_8_kib plan "$work/hosts.json" "$work/many.json" --course
-cut_at_8_kib plan "$work/hosts.json" "$work/skips.json" --course --groups
-cut_at_8_kib plan "$work/hosts.json" "$work/skips.json" --words
+cut_at_8_kib plan "$work/hosts.json" "$work/many.json" --forecast
+cut_at_8_kib plan "$work/hosts.json" "$work/skips.json" --forecast --groups
+cut_at_8_kib plan "$work/hosts.json" "$work/skips.json" --commands
 cut_at_8_kib plan "$work/hosts.json" "$work/skips.json" --json
 cut_at_8_kib state "$work/hosts.json" "$work/hosts.journal"
 # What is told of a run is left out where it can't be written, and the run goes on.

@@ -84,22 +84,22 @@ told 'nobody waits' 0 plan '{"answer":{"batches":0,"bound":{"kind":"nothing"}},"
 full='{"r1":{"vars":{"max_down":1},"hosts":{"a":{"down":true},"b":null,"c":null}},"r2":{"hosts":{"d":null}}}'
 texts "$full" "[$(play "$true")]"
 told 'a group without room' 3 plan '{"answer":{"blocked":{"group":"r1","waiting":2}},"batches":[],"held":[]}' plan "$inventory" "$playbook" --json
-told 'the course of it' 3 course '{"plays":[{"play":1,"boundaries":[{"answer":{"blocked":{"group":"r1","waiting":2}},"held":[],"open":null}],"end":{"kind":"blocked","group":"r1"}}],"batches":0}' plan "$inventory" "$playbook" --json --course
+told 'the course of it' 3 forecast '{"plays":[{"play":1,"boundaries":[{"answer":{"blocked":{"group":"r1","waiting":2}},"held":[],"open":null}],"end":{"kind":"blocked","group":"r1"}}],"batches":0}' plan "$inventory" "$playbook" --json --forecast
 told 'the run of it' 3 recap "{\"plays\":[{\"play\":1,\"boundaries\":[{\"answer\":{\"blocked\":{\"group\":\"r1\",\"waiting\":2}},\"held\":[],\"open\":null}],\"hosts\":[$(host a 0 0 0 0 0 off),$(host b 0 0 0 0 0 waiting),$(host c 0 0 0 0 0 waiting),$(host d 0 0 0 0 0 waiting)],\"end\":{\"kind\":\"blocked\",\"group\":\"r1\"}}]}" run "$inventory" "$playbook" --json
 texts "$full" "[$(play "$true" '"on_blocked":"hold"')]"
 told 'hosts that are set aside' 3 plan '{"answer":{"batches":1,"bound":{"kind":"one-host"}},"batches":[["d"]],"held":["b","c"]}' plan "$inventory" "$playbook" --json
 
-# ---- plan --course, and runs
+# ---- plan --forecast, and runs
 
 held='{"answer":{"batches":1,"bound":{"kind":"one-host"}},"held":["b","c"],"open":["d"]}'
-told 'the course that sets them aside' 3 course "{\"plays\":[{\"play\":1,\"boundaries\":[$held,$nothing],\"end\":{\"kind\":\"held\"}}],\"batches\":1}" plan --course --json "$inventory" "$playbook"
+told 'the course that sets them aside' 3 forecast "{\"plays\":[{\"play\":1,\"boundaries\":[$held,$nothing],\"end\":{\"kind\":\"held\"}}],\"batches\":1}" plan --forecast --json "$inventory" "$playbook"
 told 'the run' 3 recap "{\"plays\":[{\"play\":1,\"boundaries\":[$held,$nothing],\"hosts\":[$(host a 0 0 0 0 0 off),$(host b 0 0 0 0 0 held),$(host c 0 0 0 0 0 held),$(host d 1 1 0 0 0 updated)],\"end\":{\"kind\":\"held\"}}]}" run --json "$inventory" "$playbook"
 
 texts "$racks" "[$(play "$(on 'b')")]"
 first='{"answer":{"batches":3,"bound":{"kind":"group","group":"r1","waiting":3,"room":1}},"held":[],"open":["a","d"]}'
 second='{"answer":{"batches":2,"bound":{"kind":"group","group":"r1","waiting":2,"room":1}},"held":[],"open":["b","e"]}'
 stuck='{"answer":{"blocked":{"group":"r1","waiting":1}},"held":[],"open":null}'
-told 'a course in which a host fails' 3 course "{\"plays\":[{\"play\":1,\"boundaries\":[$first,$second,$stuck],\"end\":{\"kind\":\"blocked\",\"group\":\"r1\"}}],\"batches\":2}" plan --course --failing b "$inventory" "$playbook" --json
+told 'a course in which a host fails' 3 forecast "{\"plays\":[{\"play\":1,\"boundaries\":[$first,$second,$stuck],\"end\":{\"kind\":\"blocked\",\"group\":\"r1\"}}],\"batches\":2}" plan --forecast --failing b "$inventory" "$playbook" --json
 halfway="{\"plays\":[{\"play\":1,\"boundaries\":[$first,$second,$stuck],\"hosts\":[$(host a 1 1 0 0 0 updated),$(host b 0 0 1 0 0 failed),$(host c 0 0 0 0 0 waiting),$(host d 1 1 0 0 0 updated),$(host e 1 1 0 0 0 updated)],\"end\":{\"kind\":\"blocked\",\"group\":\"r1\"}}]}"
 for forks in 1 2 64; do
     told "a run in which it does, at $forks forks" 3 recap "$halfway" run "$inventory" "$playbook" --json --forks $forks
@@ -108,13 +108,13 @@ done
 four='{"all":{"hosts":{"a":null,"b":null,"c":null,"d":null}}}'
 texts "$four" "[$(play "{\"command\":\"false\",\"ignore_errors\":true},$true,{\"command\":\"true\",\"when\":false},$(on 'a|b')" '"serial":3,"max_fail_percentage":40')]"
 told 'too many failed' 4 recap "{\"plays\":[{\"play\":1,\"boundaries\":[{\"answer\":{\"batches\":2,\"bound\":{\"kind\":\"serial\",\"waiting\":4,\"size\":3}},\"held\":[],\"open\":[\"a\",\"c\"]},{\"answer\":{\"batches\":1,\"bound\":{\"kind\":\"serial\",\"waiting\":2,\"size\":3}},\"held\":[],\"open\":null}],\"hosts\":[$(host a 2 2 1 1 1 failed),$(host b 0 0 0 0 0 waiting),$(host c 3 3 0 1 1 halted),$(host d 0 0 0 0 0 waiting)],\"end\":{\"kind\":\"too-many-failed\",\"step\":4,\"failed\":1,\"size\":2}}]}" run "$inventory" "$playbook" --json
-told 'its course' 4 course '{"plays":[{"play":1,"boundaries":[{"answer":{"batches":2,"bound":{"kind":"serial","waiting":4,"size":3}},"held":[],"open":["a","c"]},{"answer":{"batches":1,"bound":{"kind":"serial","waiting":2,"size":3}},"held":[],"open":null}],"end":{"kind":"too-many-failed","step":1,"failed":1,"size":2}}],"batches":1}' plan "$inventory" "$playbook" --json --course --failing=a,b
+told 'its course' 4 forecast '{"plays":[{"play":1,"boundaries":[{"answer":{"batches":2,"bound":{"kind":"serial","waiting":4,"size":3}},"held":[],"open":["a","c"]},{"answer":{"batches":1,"bound":{"kind":"serial","waiting":2,"size":3}},"held":[],"open":null}],"end":{"kind":"too-many-failed","step":1,"failed":1,"size":2}}],"batches":1}' plan "$inventory" "$playbook" --json --forecast --failing=a,b
 texts "$one" "[$(play '{"command":"false"}'),$(play "$true")]"
 opened='{"answer":{"batches":1,"bound":{"kind":"one-host"}},"held":[],"open":["a"]}'
 told 'all failed, and a second play that does not begin' 4 recap "{\"plays\":[{\"play\":1,\"boundaries\":[$opened,$nothing],\"hosts\":[$(host a 0 0 1 0 0 failed)],\"end\":{\"kind\":\"all-failed\"}}]}" run "$inventory" "$playbook" --json
 texts '{"g":{"hosts":{"a":null}},"all":{"hosts":{"b":null,"c":{"down":true}}}}' "[{\"hosts\":\"g\",\"tasks\":[$true]},$(play "$(on b),$true" '"serial":1')]"
 one_by_one='{"answer":{"batches":2,"bound":{"kind":"serial","waiting":2,"size":1}},"held":[],"open":["a"]},{"answer":{"batches":1,"bound":{"kind":"serial","waiting":1,"size":1}},"held":[],"open":["b"]}'
-told 'the course of two plays' 0 course "{\"plays\":[{\"play\":1,\"boundaries\":[$opened,$nothing],\"end\":{\"kind\":\"finished\"}},{\"play\":2,\"boundaries\":[$one_by_one,$nothing],\"end\":{\"kind\":\"finished\"}}],\"batches\":3}" plan "$inventory" "$playbook" --course --json
+told 'the course of two plays' 0 forecast "{\"plays\":[{\"play\":1,\"boundaries\":[$opened,$nothing],\"end\":{\"kind\":\"finished\"}},{\"play\":2,\"boundaries\":[$one_by_one,$nothing],\"end\":{\"kind\":\"finished\"}}],\"batches\":3}" plan "$inventory" "$playbook" --forecast --json
 two_plays="{\"plays\":[{\"play\":1,\"boundaries\":[$opened,$nothing],\"hosts\":[$(host a 1 1 0 0 0 updated),$(host c 0 0 0 0 0 off)],\"end\":{\"kind\":\"finished\"}},{\"play\":2,\"boundaries\":[$one_by_one,$nothing],\"hosts\":[$(host a 2 2 0 0 0 updated),$(host b 0 0 1 0 0 failed),$(host c 0 0 0 0 0 off)],\"end\":{\"kind\":\"all-failed\"}}]}"
 told 'a run of two plays; who is idle is left out' 4 recap "$two_plays" run "$inventory" "$playbook" --json
 told 'the plan is that of the first' 0 plan '{"answer":{"batches":1,"bound":{"kind":"one-host"}},"batches":[["a"]],"held":[]}' plan "$inventory" "$playbook" --json
@@ -181,7 +181,7 @@ of_inventory() {
     texts "$2" "[$(play "$true")]"
     refused "$1, of limits" "$3" limits --json "$inventory"
     refused "$1, of a plan" "$3" plan --json "$inventory" "$playbook"
-    refused "$1, of a course" "$3" plan --course --json "$inventory" "$playbook"
+    refused "$1, of a course" "$3" plan --forecast --json "$inventory" "$playbook"
     refused "$1, of a run" "$3" run --json "$inventory" "$playbook"
 }
 of_inventory 'a bad name' '{"a b\u0001é":null}' '"number":101,"kind":"BadName","name":"a b???"'
@@ -203,7 +203,7 @@ of_playbook() {
     texts "$one" "$2"
     shift 3
     refused "$what, of a plan" "$fault" plan --json "$inventory" "$playbook" "$@"
-    refused "$what, of a course" "$fault" plan --json "$inventory" "$playbook" --course "$@"
+    refused "$what, of a course" "$fault" plan --json "$inventory" "$playbook" --forecast "$@"
     refused "$what, of a run" "$fault" run --json "$inventory" "$playbook" "$@"
 }
 of_playbook 'nobody of that name' '[{"hosts":"a:web","tasks":[{"command":"true"}]}]' '"number":304,"kind":"NoSuchName","name":"web"'
@@ -264,7 +264,7 @@ broken_off 'a stop file' '"number":917,"kind":"Stopped"' --stop-file "$inventory
 broken_off 'a journal that can not be made' '"number":911,"kind":"JournalWrite"' --journal "$work/none/journal"
 
 if [ -w /dev/full ]; then
-    for words in "limits $inventory" "plan $inventory $playbook" "plan $inventory $playbook --course" "run $inventory $playbook"; do
+    for words in "limits $inventory" "plan $inventory $playbook" "plan $inventory $playbook --forecast" "run $inventory $playbook"; do
         # shellcheck disable=SC2086
         "$rollout" $words --json >/dev/full 2>"$work/errors"
         status=$?
@@ -276,7 +276,7 @@ fi
 # A file that takes a part: exactly the first bytes went out, and so many are told.
 python3 -c 'import json; print(json.dumps({f"g{number}": {"vars": {"max_down": 1}, "hosts": {f"h{number:040}": None}} for number in range(500)}))' >"$work/many.json"
 texts "$one" "[$(play "$true")]"
-for words in "limits $work/many.json" "plan $work/many.json $playbook" "plan $work/many.json $playbook --course"; do
+for words in "limits $work/many.json" "plan $work/many.json $playbook" "plan $work/many.json $playbook --forecast"; do
     # shellcheck disable=SC2086
     "$rollout" $words --json >"$work/whole" 2>"$work/errors"
     (
@@ -425,7 +425,7 @@ bad 'of notes' lint "$inventory" --json
 bad 'of an explanation' explain 101 --json
 bad 'beside an option that is none' limits "$inventory" --json --nothing
 bad 'without a file' limits --json
-for words in --groups '--course --groups' --words "--picture $work/picture.svg" '--expect batches=1' "--from $top/examples/killed.journal"; do
+for words in --groups '--forecast --groups' --commands "--picture $work/picture.svg" '--expect batches=1' "--from $top/examples/killed.journal"; do
     # shellcheck disable=SC2086
     bad "a plan beside $words" plan "$inventory" "$playbook" --json $words
 done
@@ -452,7 +452,7 @@ if command -v jq >/dev/null; then
     asked 'jq finds groups without room' rack2 '.limits[] | select(.room == 0).group' limits "$fleet"
     asked 'jq finds a batch' 'web2' '.batches[1][]' plan "$fleet" "$top/examples/restart-web.json"
     asked 'jq finds who failed' web2 '.plays[].hosts[] | select(.state == "failed").host' run "$fleet" "$top/examples/roll-anywhere.json"
-    asked 'jq counts what is opened' 3 '[.plays[].boundaries[].open | select(.)] | length' plan "$fleet" "$top/examples/restart-web.json" --course
+    asked 'jq counts what is opened' 3 '[.plays[].boundaries[].open | select(.)] | length' plan "$fleet" "$top/examples/restart-web.json" --forecast
     PAGES=docs/JSON.md counting bash "$top/tests/readme.sh" jq
     "$rollout" limits --json "$top/examples/crossing-racks.json" 2>&1 | jq -e '.fault.number == 301' >/dev/null && pass || fail 'jq reads a fault'
 else

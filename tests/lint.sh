@@ -636,7 +636,7 @@ bad 'with a third file' lint "$inventory" "$playbook" "$playbook" --allow all
 bad 'an option without its list' lint "$inventory" --allow
 bad 'without a command' --allow no-hosts "$inventory"
 bad 'behind the word that ends options' lint "$inventory" "$playbook" -- --allow=no-hosts
-for words in '-v' '--quiet' '--course' '--groups' '--words' '--expect hosts=1' '--failing a' '--strict' '--forks 1' '--up a' '--changed-inputs' "--from $top/examples/killed.journal" '--allowed no-hosts'; do
+for words in '-v' '--quiet' '--forecast' '--groups' '--commands' '--expect hosts=1' '--failing a' '--strict' '--forks 1' '--up a' '--changed-inputs' "--from $top/examples/killed.journal" '--allowed no-hosts'; do
     # shellcheck disable=SC2086
     bad "with $words" lint "$inventory" "$playbook" $words
 done

@@ -222,7 +222,7 @@ each_refused limits "$top/examples/crossing-racks.json"
 each_refused state "$top/examples/two-racks.json" "$top/examples/killed.journal"
 each_refused limits "$top/examples/two-racks.json" --from "$top/examples/killed.journal" --up web2
 each_refused plan "$top/examples/two-racks.json" "$top/examples/roll-anywhere.json" --from "$top/examples/killed.journal" --up web2
-each_refused plan "$top/examples/two-racks.json" "$top/examples/roll-anywhere.json" --from "$top/examples/killed.journal" --up web2,web5 --course --failing web3
+each_refused plan "$top/examples/two-racks.json" "$top/examples/roll-anywhere.json" --from "$top/examples/killed.journal" --up web2,web5 --forecast --failing web3
 each_refused plan "$top/examples/two-racks.json" "$top/examples/two-plays.json" --from "$top/examples/two-plays.journal"
 each_refused plan "$top/examples/two-racks.json" "$top/examples/restart-web.json"
 each_refused plan "$top/examples/two-racks.json" "$top/examples/restart-web.json" --groups
@@ -234,7 +234,7 @@ each_refused limits "$work/web.json"
 printf '{"all":{"children":{"eu":{"vars":{"max_down":3},"children":{"r1":{"vars":{"max_down":1},"hosts":{"a":{"down":true},"b":{"v":[1]}}},"r2":{"vars":{"max_down":2},"hosts":{"d":null,"e":null}}}}}}}' >"$work/racks.json"
 printf '[{"hosts":["eu","r1:d"],"serial":[1,"50%%"],"on_blocked":"hold","tasks":[{"name":"t","command":"echo {{ v }}","when":"v is defined","notify":"h"}],"handlers":[{"name":"h","command":"true"}]}]' >"$work/held.json"
 each_refused plan "$work/racks.json" "$work/held.json"
-each_refused plan "$work/racks.json" "$work/held.json" --course --groups --failing d
+each_refused plan "$work/racks.json" "$work/held.json" --forecast --groups --failing d
 # numbers that are expected, a plan from elsewhere, notes, and the words of the steps
 each_refused limits "$top/examples/two-racks.json" --expect 'hosts=5,limited<=3' --expect web=2
 each_refused limits "$top/examples/two-racks.json" --expect 'hosts=5,rack1=2'
@@ -249,7 +249,7 @@ each_refused lint "$work/racks.json" "$work/held.json"
 each_refused lint "$work/racks.json" "$work/held.json" --allow 'undefined-name,down-hosts'
 printf '[{"hosts":["eu","r1:d"],"tasks":[{"command":"echo {{ v }}","when":"v is defined","notify":"h"},{"command":"make it","register":"r"},{"command":"echo {{ r.stdout }}{{ n }}"}],"handlers":[{"name":"h","command":"true"}]},{"hosts":"d","tasks":[{"command":"true","when":"r is changed"}]}]' >"$work/worded.json"
 fronts=yes
-each_refused plan "$work/racks.json" "$work/worded.json" --words
+each_refused plan "$work/racks.json" "$work/worded.json" --commands
 fronts=
 # each key of a play and of a step, and faults that are told late
 while IFS= read -r playbook; do

@@ -1,5 +1,5 @@
 #!/bin/sh
-# `limits`, `plan`, `plan --course` and `rehearse` from a journal: what a run that broke off would go on with, in full text; that a run which goes on does just that; and what refuses it.
+# `limits`, `plan`, `plan --forecast` and `rehearse` from a journal: what a run that broke off would go on with, in full text; that a run which goes on does just that; and what refuses it.
 # `tests/slow/outlook.py` draws more. It needs Python and crates/rollout/out/rollout.
 . "$(dirname "$0")/common.sh"
 quietly
@@ -89,21 +89,21 @@ boundary 3: plan batches=1 bound=group row waiting=1 room=1
 open: d
 boundary 4: plan batches=0 bound=nothing
 end finished
-batches=3' plan inventory one --from journal --course --up b
+batches=3' plan inventory one --from journal --forecast --up b
 told 3 'boundary 1: blocked group=r1 waiting=1
 end blocked group=r1
-batches=0' plan --course inventory one --from journal --up e
+batches=0' plan --forecast inventory one --from journal --up e
 told 2 'boundary 1: plan batches=2 bound=group row waiting=4 room=2
 open: b d
 boundary 2: plan batches=1 bound=group row waiting=2 room=2
 open: c e
 boundary 3: plan batches=0 bound=nothing
 end finished
-batches=2' plan --course inventory one --from journal --up b,e --failing c
+batches=2' plan --forecast inventory one --from journal --up b,e --failing c
 # Who is down by the journal is not touched, be it named or not.
 told 3 'boundary 1: blocked group=row waiting=2
 end blocked group=row
-batches=0' plan --course --failing b inventory one --from journal
+batches=0' plan --forecast --failing b inventory one --from journal
 typed plan show 'advance c' 'advance b' 'hosts r1' 'fail d' finish show undo undo undo undo
 told 0 'plan batches=3 bound=group row waiting=3 room=1
 batch 1: b
@@ -153,7 +153,7 @@ input=/dev/null
 
 # A run that goes on does just what was foreseen.
 cp journal kept-journal
-run plan --course inventory one --from journal --up b,e
+run plan --forecast inventory one --from journal --up b,e
 sed '$d' out >foreseen
 run run inventory one --resume journal --up b,e
 grep -v ' state=' out | cmp -s - foreseen && [ "$status" -eq 0 ] && pass || fail "another course: $(cat out)"
@@ -170,7 +170,7 @@ hosts=5 limited=3' limits inventory --from journal
 told 0 'plan batches=0 bound=nothing' plan inventory one --from journal
 told 0 'boundary 1: plan batches=0 bound=nothing
 end finished
-batches=0' plan --course inventory one --from journal
+batches=0' plan --forecast inventory one --from journal
 
 # A run that would finish with a host that was at work when it broke off ends with 2.
 printf '%s' '{"row":{"vars":{"max_down":2},"hosts":{"a":null,"b":null,"c":{"down":true}}}}' >wide
@@ -185,14 +185,14 @@ boundary 2: plan batches=1 bound=group row waiting=1 room=1
 open: c
 boundary 3: plan batches=0 bound=nothing
 end finished
-batches=2' plan --course inventory one --from journal --up c
+batches=2' plan --forecast inventory one --from journal --up c
 told 0 'boundary 1: plan batches=2 bound=group row waiting=3 room=2
 open: a c
 boundary 2: plan batches=1 bound=group row waiting=1 room=2
 open: b
 boundary 3: plan batches=0 bound=nothing
 end finished
-batches=2' plan --course inventory one --from journal --up c,a
+batches=2' plan --forecast inventory one --from journal --up c,a
 cp kept-inventory inventory
 
 # ---- of several plays, in the second
@@ -204,7 +204,7 @@ told 3 'play 2
 boundary 1: plan batches=0 bound=nothing
 held: b c d
 end held
-batches=0' plan --course inventory three --from journal
+batches=0' plan --forecast inventory three --from journal
 told 0 'play 2
 boundary 1: plan batches=4 bound=group row waiting=4 room=1
 open: a
@@ -225,7 +225,7 @@ boundary 3: plan batches=1 bound=group row waiting=1 room=1
 open: c
 boundary 4: plan batches=0 bound=nothing
 end finished
-batches=7' plan --course inventory three --from journal --up a
+batches=7' plan --forecast inventory three --from journal --up a
 # The sizes begin anew, and d fails in the play in which its batch comes first.
 told 2 'play 2
 boundary 1: plan batches=5 bound=serial waiting=5 size=1
@@ -247,7 +247,7 @@ boundary 3: plan batches=1 bound=group row waiting=1 room=1
 open: c
 boundary 4: plan batches=0 bound=nothing
 end finished
-batches=7' plan --course inventory three --from journal --up all --failing d
+batches=7' plan --forecast inventory three --from journal --up all --failing d
 # With a down r1 has no room, and the row has it for one host more.
 typed plan finish show
 told 0 'plan batches=2 bound=group row waiting=2 room=1
@@ -292,7 +292,7 @@ refused '913 OtherInputs' plan other one --from journal
 told 3 'blocked group=row waiting=2' plan other one --from journal --changed-inputs
 printf ' ' | cat one - >another
 refused '913 OtherInputs' plan inventory another --from journal
-refused '913 OtherInputs' plan --course inventory another --from journal
+refused '913 OtherInputs' plan --forecast inventory another --from journal
 refused '913 OtherInputs' rehearse inventory another --from journal
 told 3 'blocked group=row waiting=2' plan --changed-inputs inventory another --from journal
 refused '913 OtherInputs' plan --changed-inputs inventory three --from journal
@@ -304,7 +304,7 @@ r1 members=3 down=1 limit=1 room=0
 r2 members=2 down=1 limit=2 room=1
 hosts=5 limited=3' limits low --from journal --changed-inputs
 refused '302 StartOver group=row down=2 limit=1' plan low one --from journal --changed-inputs
-refused '302 StartOver group=row down=2 limit=1' plan --course low one --from journal --changed-inputs
+refused '302 StartOver group=row down=2 limit=1' plan --forecast low one --from journal --changed-inputs
 refused '302 StartOver group=row down=2 limit=1' rehearse low one --from journal --changed-inputs
 told 3 'blocked group=row waiting=3' plan low one --from journal --changed-inputs --up b
 
@@ -313,9 +313,9 @@ told 3 'blocked group=row waiting=3' plan low one --from journal --changed-input
 refused '304 NoSuchName name=z' limits inventory --from journal --up a,z
 refused '304 NoSuchName name=z' plan inventory one --from journal --up z
 refused '304 NoSuchName name=z' rehearse inventory one --from journal --up z
-refused '304 NoSuchName name=z' plan --course inventory one --from journal --failing b,z
-refused '302 StartOver group=row down=2 limit=1' plan --course low one --from journal --changed-inputs --failing z
-refused '304 NoSuchName name=y' plan --course low one --from journal --changed-inputs --failing z --up y
+refused '304 NoSuchName name=z' plan --forecast inventory one --from journal --failing b,z
+refused '302 StartOver group=row down=2 limit=1' plan --forecast low one --from journal --changed-inputs --failing z
+refused '304 NoSuchName name=y' plan --forecast low one --from journal --changed-inputs --failing z --up y
 refused '902 File name=nosuch' limits inventory --from nosuch
 refused '902 File name=nosuch' plan inventory one --from nosuch --up z
 refused '902 File name=nosuch' rehearse inventory one --from nosuch
@@ -326,7 +326,7 @@ refused '201 NotJson' limits journal --from journal --up z
 printf '%s' '[{"hosts":"a","tasks":[{"command":"true","register":"r"}]},{"hosts":"a","tasks":[{"command":"echo {{ r.rc }}"}]}]' >needs
 written needs HEAD 'play: a' 'open: a' 'closed: updated:a' 'end finished'
 refused '914 NeedsResult name=r' plan inventory needs --from journal
-refused '914 NeedsResult name=r' plan --course inventory needs --from journal --failing z
+refused '914 NeedsResult name=r' plan --forecast inventory needs --from journal --failing z
 refused '914 NeedsResult name=r' rehearse inventory needs --from journal
 told 0 'row members=5 down=1 limit=2 room=1
 r1 members=3 down=0 limit=1 room=1
@@ -335,7 +335,7 @@ hosts=5 limited=3' limits inventory --from journal
 written needs HEAD 'play: a b' 'open: a' 'closed: updated:a' 'open: b'
 refused '914 NeedsResult name=r' plan inventory needs --from journal
 written one HEAD 'play: a' 'open: b'
-for words in 'limits inventory' 'plan inventory one' 'plan --course inventory one --failing z' 'rehearse inventory one'; do
+for words in 'limits inventory' 'plan inventory one' 'plan --forecast inventory one --failing z' 'rehearse inventory one'; do
     refused '912 BadJournal line=3' $words --from journal
 done
 : >journal
@@ -349,7 +349,7 @@ check 'standard input that is none' 1 '' "rollout: 201 NotJson$newline"
 # The lock of neither file is asked for, and a link is followed.
 written one HEAD 'play: a b c d' 'open: a' 'closed: updated:a' 'open: b'
 ln -s journal link
-for words in 'limits inventory' 'plan inventory one' 'plan --course inventory one' 'rehearse inventory one'; do
+for words in 'limits inventory' 'plan inventory one' 'plan --forecast inventory one' 'rehearse inventory one'; do
     for file in inventory journal; do
         locked "$file" $words --from link --up b
         [ "$status" -eq 0 ] && [ ! -s errors ] && pass || fail "$words asks for a lock of the $file: $(cat errors)"
@@ -362,6 +362,6 @@ full() {
 }
 full limits inventory --from journal
 full plan inventory one --from journal
-full plan --course inventory one --from journal
+full plan --forecast inventory one --from journal
 cd "$top" || exit 1
 finish

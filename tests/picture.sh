@@ -40,7 +40,7 @@ a: r1 | waiting | updated ran | updated | updated
 b: r1 | waiting | waiting | updated ran | updated
 c: r1 | waiting | waiting | waiting | updated ran
 d: r2 | waiting | updated ran | updated | updated
-e: r2 | waiting | waiting | updated ran | updated' --course
+e: r2 | waiting | waiting | updated ran | updated' --forecast
 
 pictured 'a host fails, and its rack has no room: the others wait' "$racks" '[{"hosts":"all","tasks":[{"command":"true"}]}]' 'play 1
 eu max_down=3 | 0/3 | 2/3
@@ -50,7 +50,7 @@ a: r1 | waiting | failed ran
 b: r1 | waiting | waiting
 c: r1 | waiting | waiting
 d: r2 | waiting | updated ran
-e: r2 | waiting | waiting' --course --failing a
+e: r2 | waiting | waiting' --forecast --failing a
 
 pictured 'the same where hosts are held: they are set aside behind the batch' "$racks" '[{"hosts":"all","on_blocked":"hold","tasks":[{"command":"true"}]}]' 'play 1
 eu max_down=3 | 0/3 | 2/3 | 2/3
@@ -60,7 +60,7 @@ a: r1 | waiting | failed ran | failed
 b: r1 | waiting | held | held
 c: r1 | waiting | held | held
 d: r2 | waiting | updated ran | updated
-e: r2 | waiting | waiting | updated ran' --course --failing a
+e: r2 | waiting | waiting | updated ran' --forecast --failing a
 
 pictured 'a host that is down from the start, one that is for no play, and one in no limited group' '{"all":{"hosts":{"lone":null},"children":{"r":{"vars":{"max_down":2},"hosts":{"a":{"down":true},"b":null,"c":null}}}}}' \
     '[{"hosts":"a:b:lone","tasks":[{"command":"true"}]},{"hosts":"c","tasks":[{"command":"true"}]}]' 'play 1
@@ -74,7 +74,7 @@ r max_down=2 | 1/2 | 2/2
 lone | idle | idle
 a: r | off | off
 b: r | idle | idle
-c: r | waiting | updated ran' --course
+c: r | waiting | updated ran' --forecast
 
 # A file that is there is written anew: nothing is left of a longer picture.
 printf '[{"hosts":"all","tasks":[{"command":"true"}]}]' >"$work/playbook.json"

@@ -364,7 +364,7 @@ cp journal tried
 went 'who failed and is mended runs the handlers of the play that goes on, and not of the next one; nobody else does' 0 "$(both 1 1 0 0)" 'a ' owed --up a
 cp out recap
 cp tried journal
-run plan inventory owed --course --from journal --up a
+run plan inventory owed --forecast --from journal --up a
 [ "$status" -eq 0 ] && [ "$(grep -v '^b' out)" = "$(grep -v ' state=' recap)" ] && pass || fail "a course has the batches and the ends of a run in which somebody owes handlers: $(cat out)"
 run plan inventory owed --from journal --up a
 [ "$status" -eq 0 ] && grep -q '^batch 1: a$' out && pass || fail "a plan says who is first where somebody owes handlers: $(cat out)"

@@ -1,5 +1,5 @@
 #!/bin/sh
-# Which words would run on which host, as `plan --words` tells them before anything runs: worked texts, whole. What is told in a shell's quotes is read back by a shell. Drawn ones stand in
+# Which words would run on which host, as `plan --commands` tells them before anything runs: worked texts, whole. What is told in a shell's quotes is read back by a shell. Drawn ones stand in
 # tests/drawn.sh, beside the slow program. It needs crates/rollout/out/rollout, bash and Python.
 . "$(dirname "$0")/common.sh"
 
@@ -11,7 +11,7 @@ told() {
     printf '%s' "$4" >"$work/playbook.json"
     text=${5:+$5$newline}
     shift 5
-    run plan "$work/inventory.json" "$work/playbook.json" --words "$@"
+    run plan "$work/inventory.json" "$work/playbook.json" --commands "$@"
     check "$what" "$ends" "$text" ''
 }
 
@@ -19,7 +19,7 @@ told() {
 untold() {
     printf '%s' "$2" >"$work/inventory.json"
     printf '%s' "$3" >"$work/playbook.json"
-    run plan "$work/inventory.json" "$work/playbook.json" --words
+    run plan "$work/inventory.json" "$work/playbook.json" --commands
     check "$1" 1 '' "$4$newline"
 }
 
@@ -108,10 +108,10 @@ told 'hosts that are down at the start are left out, and so are those of no play
 c step=1 runs: p
 play 2'
 told 'nobody waits' 0 "$down" "[$(play '{"command":"p"}' '' b)]" ''
-run plan -v "$work/inventory.json" "$work/playbook.json" --words
+run plan -v "$work/inventory.json" "$work/playbook.json" --commands
 check 'with -v the hosts that are left out are told' 0 '' "note: b is down and stays down: 1 host of the play is left out$newline"
 printf '[%s,%s]' "$(play '{"command":"p"}' '' 'a:b')" "$(play '{"command":"q"}' '' 'd')" >"$work/playbook.json"
-run plan "$work/inventory.json" --words "$work/playbook.json" --verbose
+run plan "$work/inventory.json" --commands "$work/playbook.json" --verbose
 check 'those of all plays' 0 "play 1${newline}a step=1 runs: p${newline}play 2${newline}" "note: b d are down and stay down: 2 hosts of the plays are left out$newline"
 
 told 'limits, sizes and who is set aside make no difference' 0 '{"g":{"vars":{"max_down":0},"hosts":{"a":null,"b":null}}}' '[{"hosts":"all","serial":1,"on_blocked":"hold","tasks":[{"command":"p"}]}]' 'a step=1 runs: p
@@ -143,7 +143,7 @@ cat >"$work/playbook.json" <<'PLAYBOOK'
 ]}]
 PLAYBOOK
 printf '{"all":{"vars":{"v":"it\\u0027s \\"\\\\"},"hosts":{"a":null,"b":{"v":"x y"}}}}' >"$work/inventory.json"
-run plan "$work/inventory.json" "$work/playbook.json" --words
+run plan "$work/inventory.json" "$work/playbook.json" --commands
 [ "$(grep -c ' runs: ' "$work/out")" -eq 3 ] && [ "$(grep -c ' skipped$' "$work/out")" -eq 1 ] && pass || fail 'what is told to run'
 sed -n 's/^[ab] step=[12] runs: //p' "$work/out" | WRITTEN=$work/told bash --norc
 WRITTEN=$work/ran
@@ -188,13 +188,13 @@ untold 'a group over its limit at the start' '{"all":{"vars":{"max_down":0},"hos
 
 printf '%s' "$one" >"$work/inventory.json"
 printf '[%s]' "$(play '{"command":"p"}')" >"$work/playbook.json"
-run plan --words "$work/inventory.json" "$work/missing.json"
+run plan --commands "$work/inventory.json" "$work/missing.json"
 check 'a file that is not there' 1 '' "rollout: 902 File name=$work/missing.json$newline"
-run plan --words "$work/inventory.json" "$work/playbook.json"
+run plan --commands "$work/inventory.json" "$work/playbook.json"
 check 'the option before the files' 0 "a step=1 runs: p$newline" ''
-run plan "$work/inventory.json" "$work/playbook.json" --words --color always
+run plan "$work/inventory.json" "$work/playbook.json" --commands --color always
 check 'colours change nothing' 0 "a step=1 runs: p$newline" ''
-run plan "$work/inventory.json" "$work/playbook.json" --words
+run plan "$work/inventory.json" "$work/playbook.json" --commands
 before=$(cat "$work/out")
 run run "$work/inventory.json" "$work/playbook.json"
 [ "$before" = 'a step=1 runs: p' ] && grep -q '^a ok=0 changed=0 failed=1 ' "$work/out" && pass || fail 'a program that is not there is told like any other'
@@ -205,20 +205,20 @@ bad() {
     run "$@"
     if [ "$status" -eq 1 ] && [ ! -s "$work/out" ] && [ "$(head -n 1 "$work/errors")" = 'rollout: 901 BadLine' ]; then pass; else fail "$what: status $status"; fi
 }
-bad 'words of one file' plan "$work/inventory.json" --words
-bad 'words of the limits' limits "$work/inventory.json" --words
-bad 'words of a run' run "$work/inventory.json" "$work/playbook.json" --words
-bad 'words of a rehearsal' rehearse "$work/inventory.json" "$work/playbook.json" --words
-bad 'a value' plan "$work/inventory.json" "$work/playbook.json" --words=all
-bad 'behind the word that ends options' plan "$work/inventory.json" "$work/playbook.json" -- --words
-bad 'beside a course' plan "$work/inventory.json" "$work/playbook.json" --words --course
-bad 'beside a course with names' plan "$work/inventory.json" "$work/playbook.json" --words --course --failing a
-bad 'beside names' plan "$work/inventory.json" "$work/playbook.json" --words --failing a
-bad 'beside groups' plan "$work/inventory.json" "$work/playbook.json" --groups --words
-bad 'beside colours at another time' plan "$work/inventory.json" "$work/playbook.json" --words --color red
-bad 'beside a picture' plan "$work/inventory.json" "$work/playbook.json" --words --picture "$work/picture.svg"
-bad 'beside a journal' plan "$work/inventory.json" "$work/playbook.json" --words --from "$top/examples/killed.journal"
-bad 'beside what is expected' plan "$work/inventory.json" "$work/playbook.json" --words --expect batches=1
+bad 'words of one file' plan "$work/inventory.json" --commands
+bad 'words of the limits' limits "$work/inventory.json" --commands
+bad 'words of a run' run "$work/inventory.json" "$work/playbook.json" --commands
+bad 'words of a rehearsal' rehearse "$work/inventory.json" "$work/playbook.json" --commands
+bad 'a value' plan "$work/inventory.json" "$work/playbook.json" --commands=all
+bad 'behind the word that ends options' plan "$work/inventory.json" "$work/playbook.json" -- --commands
+bad 'beside a course' plan "$work/inventory.json" "$work/playbook.json" --commands --forecast
+bad 'beside a course with names' plan "$work/inventory.json" "$work/playbook.json" --commands --forecast --failing a
+bad 'beside names' plan "$work/inventory.json" "$work/playbook.json" --commands --failing a
+bad 'beside groups' plan "$work/inventory.json" "$work/playbook.json" --groups --commands
+bad 'beside colours at another time' plan "$work/inventory.json" "$work/playbook.json" --commands --color red
+bad 'beside a picture' plan "$work/inventory.json" "$work/playbook.json" --commands --picture "$work/picture.svg"
+bad 'beside a journal' plan "$work/inventory.json" "$work/playbook.json" --commands --from "$top/examples/killed.journal"
+bad 'beside what is expected' plan "$work/inventory.json" "$work/playbook.json" --commands --expect batches=1
 [ ! -e "$work/picture.svg" ] && pass || fail 'a picture is drawn by a bad line'
 
 # Many registers: more than any test draws, each read in a later play.
@@ -230,11 +230,11 @@ plays = [{"hosts": "all", "tasks": [{"command": "true", "register": name} for na
 print(json.dumps([*plays, {"hosts": "all", "tasks": [{"command": f"echo {{{{ {name}.rc }}}}"} for name in names[:250]]}]))
 PY
 printf '{"all":{"hosts":{"a":null}}}' >"$work/one.json"
-run plan "$work/one.json" "$work/many.json" --words
+run plan "$work/one.json" "$work/many.json" --commands
 [ "$status" -eq 0 ] && [ "$(grep -c 'runs: true$' "$work/out")" -eq 3000 ] && [ "$(tail -n 1 "$work/out")" = "a step=250 runs: echo '{{ r249.rc }}'" ] && pass || fail "three thousand registers: status $status, $(tail -n 1 "$work/out")"
 
 if [ -w /dev/full ]; then
-    "$rollout" plan "$work/inventory.json" "$work/playbook.json" --words >/dev/full 2>"$work/errors"
+    "$rollout" plan "$work/inventory.json" "$work/playbook.json" --commands >/dev/full 2>"$work/errors"
     status=$?
     : >"$work/out"
     check 'an output that takes nothing' 1 '' "rollout: 904 Write written=0$newline"

@@ -14,7 +14,7 @@
 #                   the first batch
 #     one_failure   how the roll may end where one of these fails: 2 it goes on to its end, 3 hosts have no room, 4 it ends there; 2 without this line
 #
-# `batches` and `plan` are of the first play, with the first size of its `serial`; the course and the failures are of all plays, with all sizes. A host fails at its first
+# `batches` and `plan` are of the first play, with the first size of its `serial`; the forecast and the failures are of all plays, with all sizes. A host fails at its first
 # step, in the first play that opens it.
 #
 # All is asked, also where something was lost before. It ends with 0 where nothing is lost, with 1 where something is, with 2 where it was called otherwise, or EXPECTED has
@@ -76,11 +76,11 @@ batches=$(setting batches)
 [ -z "$batches" ] || ask 'the plan' plan --expect "$batches" -- "$inventory" "$playbook"
 plan=$(setting plan)
 [ -z "$plan" ] || ask 'the plan that was agreed on' check -- "$inventory" "$playbook" "$(dirname "$expected")/$plan"
-ask 'the course' plan --course -- "$inventory" "$playbook"
+ask 'the forecast' plan --forecast -- "$inventory" "$playbook"
 
 # opened: the hosts of each batch, a line for each
 opened() {
-    "$rollout" plan --course -- "$inventory" "$playbook" | sed -n 's/^open: //p'
+    "$rollout" plan --forecast -- "$inventory" "$playbook" | sed -n 's/^open: //p'
 }
 failing=$(setting failing)
 case $failing in
@@ -90,9 +90,9 @@ all) failing=$(opened | tr ' ' '\n' | awk '!seen[$0]++') ;;
 esac
 ends=$(setting one_failure)
 for host in $failing; do
-    course=$("$rollout" plan --course --failing "$host" -- "$inventory" "$playbook")
+    forecast=$("$rollout" plan --forecast --failing "$host" -- "$inventory" "$playbook")
     status=$?
-    echo "if $host fails, $(echo "$course" | sed -n '/^held: /p; /^end /p; /^batches=/p' | paste -s -d ' ' -)"
+    echo "if $host fails, $(echo "$forecast" | sed -n '/^held: /p; /^end /p; /^batches=/p' | paste -s -d ' ' -)"
     case " ${ends:-2} " in
     *" $status "*) ;;
     *) lost "one failure, of $host: status $status" ;;

@@ -92,9 +92,9 @@ def outputs(rows, files):
     for words, told, status in (
         (["limits", files["groups"]], b"", 0),
         (plan, b"", 0),
-        ([*plan, "--course"], b"", 0),
+        ([*plan, "--forecast"], b"", 0),
         ([*plan, "--groups"], b"", 0),
-        ([*plan, "--words"], b"", 0),
+        ([*plan, "--commands"], b"", 0),
         ([*plan, "--json"], b"", 0),
         (["lint", files["groups"]], b"", 1),
         (["state", files["hosts"], files["journal"]], b"", 0),

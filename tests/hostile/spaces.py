@@ -29,9 +29,9 @@ BOTH = ("inventory.json", "playbook.json")
 COMMANDS = {
     "limits": ("limits", BOTH[0]),
     "plan": ("plan", *BOTH),
-    "course": ("plan", *BOTH, "--course"),
+    "course": ("plan", *BOTH, "--forecast"),
     "groups": ("plan", *BOTH, "--groups"),
-    "words": ("plan", *BOTH, "--words"),
+    "words": ("plan", *BOTH, "--commands"),
     "lint": ("lint", *BOTH),
     "check": ("check", *BOTH, "plan.txt"),
     "run": ("run", *BOTH),

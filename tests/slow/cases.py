@@ -138,7 +138,7 @@ def draw_foreseen(seed, number):
     inventory = write(draw_right_inventory(random, crossing=0.02, down=random.choice([0, 0.05, 0.2]), limited=random.choice([0.1, 0.4, 0.7])), random)
     value = draw_right_playbook(random, names_in(inventory), RunStyle([]), random.choice([1, 1, 2, 3]))
     playbook = write(mutate(value, random) if random.random() < 0.03 else value, random)
-    return Case(("plan", INVENTORY, PLAYBOOK, "--course", *_failing(random, hosts_in(inventory), names_in(inventory))), inventory, playbook)
+    return Case(("plan", INVENTORY, PLAYBOOK, "--forecast", *_failing(random, hosts_in(inventory), names_in(inventory))), inventory, playbook)
 
 
 def draw_grouped(seed, number):
@@ -148,7 +148,7 @@ def draw_grouped(seed, number):
     inventory, value = _many(random) if are_many else _few(random)
     inventory = write(inventory, random)
     failing = [] if are_many and random.random() < 0.7 else _failing(random, hosts_in(inventory), names_in(inventory))
-    words = ["--course", *failing] if random.random() < 0.6 else []
+    words = ["--forecast", *failing] if random.random() < 0.6 else []
     words.insert(random.choice([0, len(words)]), "--groups")
     playbook = write(value, random)
     words += random.choice(["", "--color auto", "--color=never", "--color always", "--color=always", "--color=never --color always"]).split()

@@ -47,9 +47,9 @@ def command(words, files, typed):
         return check(*files)
     if words[0] == "lint":
         return lint(*files, allowed=allowed)
-    if words[0] == "plan" and "--words" in words:
+    if words[0] == "plan" and "--commands" in words:
         return words_of_plays(*files, "-v" in words)
-    if words[0] == "plan" and "--course" in words:
+    if words[0] == "plan" and "--forecast" in words:
         return course(*files, names_to_fail(words), "--groups" in words, wants_colours(words))
     if words[0] == "plan":
         return plan(*files, "--groups" in words, wants_colours(words), expectations)

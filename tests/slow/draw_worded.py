@@ -58,5 +58,5 @@ def draw_worded(seed, number):
     inventory = write(draw_right_inventory(random, crossing=0.02, down=random.choice([0, 0.1, 0.3]), limited=0.3, dense=random.random() < 0.7), random)
     value = draw_right_playbook(random, names_in(inventory), WordedStyle(), random.choice([1, 1, 2, 3]))
     playbook = write(mutate(value, random) if random.random() < 0.03 else value, random)
-    words = ["--words", *random.choice([[], [], [], ["-v"]])]
+    words = ["--commands", *random.choice([[], [], [], ["-v"]])]
     return Case(("plan", INVENTORY, PLAYBOOK, *words), inventory, playbook)

@@ -42,7 +42,7 @@ def _try(work):
     # A group's name hides a host's.
     named = [host for host in named if host not in {place.name for place in fleet.places}]
     words = ("--failing", ",".join(named)) if named else ()
-    asked = Case(("plan", INVENTORY, PLAYBOOK, "--course", *words), inventory, json.dumps(plays).encode())
+    asked = Case(("plan", INVENTORY, PLAYBOOK, "--forecast", *words), inventory, json.dumps(plays).encode())
     playbook = json.dumps([failing(play, named) for play in plays]).encode()
     ran = Case(("run", INVENTORY, PLAYBOOK, "--forks", str(random.choice([1, 2, 5, 64]))), inventory, playbook)
     with tempfile.TemporaryDirectory() as folder:

@@ -1,4 +1,4 @@
-"""Which words would run on which host, as `plan --words` tells them beforehand: what a variable gives is filled in, and what only a run can know is left as a hole."""
+"""Which words would run on which host, as `plan --commands` tells them beforehand: what a variable gives is filled in, and what only a run can know is left as a hole."""
 
 from dataclasses import replace
 

@@ -112,7 +112,7 @@ def many_advances(count):
 def long_course(count):
     """A course of so many batches."""
     case = one_by_one(count)
-    return Case((*case.words, "--course"), case.inventory, case.playbook)
+    return Case((*case.words, "--forecast"), case.inventory, case.playbook)
 
 
 def with_groups(case):

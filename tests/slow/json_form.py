@@ -1,4 +1,4 @@
-"""What `--json` prints: the facts of `limits`, `plan`, `plan --course` and `run`, and faults, each as one JSON object on one line; and what comes of a rehearsal that is told so."""
+"""What `--json` prints: the facts of `limits`, `plan`, `plan --forecast` and `run`, and faults, each as one JSON object on one line; and what comes of a rehearsal that is told so."""
 
 import json
 
@@ -28,7 +28,7 @@ def said(words, files, failing, mended):
     try:
         if words[0] == "limits":
             return _said(limits(Fleet(read_inventory(*files))), 0)
-        if words[0] == "plan" and "--course" in words:
+        if words[0] == "plan" and "--forecast" in words:
             _, _, courses = coursed(*files, failing)
             return _said(course(courses), status_of(courses))
         if words[0] == "plan":

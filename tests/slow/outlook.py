@@ -112,7 +112,7 @@ def ask_all(trial, random_, text, names):
     files = ["inventory.json", "playbook.json"]
     trial.ask(text, ["plan", *files, *words], lambda: plan_from(*asked))
     failing = random_.choice(["", "a0", "r1", "b-1,a2"])
-    trial.ask(text, ["plan", "--course", "--failing", failing, *files, *words], lambda: course_from(*asked, failing=failing))
+    trial.ask(text, ["plan", "--forecast", "--failing", failing, *files, *words], lambda: course_from(*asked, failing=failing))
     typed = b"plan\nadvance a1\nshow\nundo\nfinish\nshow\n"
     trial.ask(text, ["rehearse", *files, *words], lambda: rehearse_from(*asked, typed=typed), typed)
 

@@ -102,7 +102,7 @@ def main(program, seed, cases):
     with tempfile.TemporaryDirectory() as folder:
         for number in range(cases):
             case = draw_grouped(seed, number)
-            words = [word for word in case.words if word not in ("--groups", "--course")]
+            words = [word for word in case.words if word not in ("--groups", "--forecast")]
             try:
                 fleet, plays, targets = accepted(case.inventory, case.playbook)
                 courses = foresee(fleet, plays, targets, lambda target: targeted(fleet, target), fleet.target(names_to_fail(case.words)))
@@ -123,7 +123,7 @@ def _drawn_by(program, folder, case, words):
     for name, content in ((INVENTORY, case.inventory), (PLAYBOOK, case.playbook)):
         with open(os.path.join(folder, name), "wb") as file:
             file.write(content)
-    subprocess.run([program, *words, "--course", "--picture", "picture.svg"], cwd=folder, stdout=subprocess.DEVNULL, stderr=subprocess.DEVNULL, check=False)
+    subprocess.run([program, *words, "--forecast", "--picture", "picture.svg"], cwd=folder, stdout=subprocess.DEVNULL, stderr=subprocess.DEVNULL, check=False)
     try:
         with open(os.path.join(folder, "picture.svg"), encoding="utf-8") as file:
             return file.read()

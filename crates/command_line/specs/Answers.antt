@@ -54,7 +54,7 @@ Finds (by.rehearse files) found = FindsBoth (codes "rehearse") (codes "PLAY") fi
 Finds (by.state files) found = FindsBoth (codes "state") (codes "JOURNAL") files found
 Finds (by.check files) found = FindsBoth (codes "check") (codes "PLAY") (files.0, files.1) found × (file_in (codes "check") (codes "PLAN") found ≡ Some files.2)
 Finds (by.lint inventory playbook) found = FindsLint inventory playbook found
-Finds (by.explain word) found = file_in (codes "explain") (codes "NUMBER|KIND") found ≡ Some word
+Finds (by.explain word) found = file_in (codes "explain") (codes "NUMBER|RULE") found ≡ Some word
 
 -- clap found something else than what is asked for, if anything is
 abbrev pub FindsOthers : Option Asked → Option (Text × List Row) → Type 0

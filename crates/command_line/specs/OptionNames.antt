@@ -2,7 +2,7 @@
 use Rattle.std.specs.Prelude.{Bool, true, false, ◌||◌, [], codes, unwrap_or}
 use Rattle.std.specs.Str.{bytes_eq}
 use Rattle.command_line.specs.declared.option_name.OptionName.{OptionName}
-use Rattle.command_line.specs.declared.option_name.OptionName.TheVariants.{Allow, ChangedInputs, Color, Course, Expect, Failing, From, Groups, Journal, Json, LockFile, Up, NoLock, Picture, Quiet, Resume, StopFile, Strict, Verbose, Words}
+use Rattle.command_line.specs.declared.option_name.OptionName.TheVariants.{Allow, ChangedInputs, Color, Commands, Expect, Failing, Forecast, From, Groups, Journal, Json, LockFile, Up, NoLock, Picture, Quiet, Resume, StopFile, Strict, Verbose}
 use Rattle.command_line.specs.Operands.{Word}
 use Rattle.command_line.specs.Options.{behind}
 
@@ -11,9 +11,10 @@ abbrev pub text_of : OptionName → Word
 text_of Allow = codes "--allow"
 text_of ChangedInputs = codes "--changed-inputs"
 text_of Color = codes "--color"
-text_of Course = codes "--course"
+text_of Commands = codes "--commands"
 text_of Expect = codes "--expect"
 text_of Failing = codes "--failing"
+text_of Forecast = codes "--forecast"
 text_of From = codes "--from"
 text_of Groups = codes "--groups"
 text_of Journal = codes "--journal"
@@ -27,7 +28,6 @@ text_of Resume = codes "--resume"
 text_of StopFile = codes "--stop-file"
 text_of Strict = codes "--strict"
 text_of Verbose = codes "--verbose"
-text_of Words = codes "--words"
 
 -- how it is written without its dashes
 abbrev pub id_of : OptionName → Word
@@ -38,9 +38,10 @@ abbrev pub has_value : OptionName → Bool
 has_value Allow = true
 has_value ChangedInputs = false
 has_value Color = true
-has_value Course = false
+has_value Commands = false
 has_value Expect = true
 has_value Failing = true
+has_value Forecast = false
 has_value From = true
 has_value Groups = false
 has_value Journal = true
@@ -54,7 +55,6 @@ has_value Resume = true
 has_value StopFile = true
 has_value Strict = false
 has_value Verbose = false
-has_value Words = false
 
 -- the two are one option: they are written alike
 abbrev pub is_same : OptionName → OptionName → Bool
@@ -65,9 +65,10 @@ abbrev pub has_letter : OptionName → Word → Bool
 has_letter Allow word = false
 has_letter ChangedInputs word = false
 has_letter Color word = false
-has_letter Course word = false
+has_letter Commands word = false
 has_letter Expect word = false
 has_letter Failing word = false
+has_letter Forecast word = false
 has_letter From word = false
 has_letter Groups word = false
 has_letter Journal word = false
@@ -81,7 +82,6 @@ has_letter Resume word = false
 has_letter StopFile word = false
 has_letter Strict word = false
 has_letter Verbose word = bytes_eq word (codes "-v")
-has_letter Words word = false
 
 -- the word is the option's name, or that letter
 abbrev pub is_named : OptionName → Word → Bool

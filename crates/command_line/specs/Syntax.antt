@@ -81,9 +81,9 @@ any_playbook_argument = new_rule (codes "PLAY")
 abbrev pub plan_argument : Rule
 plan_argument = record (new_rule (codes "PLAN")) { required = true }
 
--- the argument for the number of a fault, or the name of a kind of notes
+-- the argument for the number of an error, or the name of a lint rule
 abbrev pub topic_argument : Rule
-topic_argument = record (new_rule (codes "NUMBER|KIND")) { required = true }
+topic_argument = record (new_rule (codes "NUMBER|RULE")) { required = true }
 
 abbrev pub check_command : App
 check_command = with_rule (with_rule (with_rule (new_app (codes "check")) inventory_argument) playbook_argument) plan_argument

@@ -4,9 +4,9 @@ use Rattle.std.specs.List.{last_or, list_all, list_any}
 use Rattle.std.specs.Option.{option_or}
 use Rattle.std.specs.Str.{bytes_eq}
 use Rattle.command_line.specs.declared.clash.Clash.{Clash}
-use Rattle.command_line.specs.declared.clash.Clash.TheVariants.{FailingAlone, JournalOfResume, ChangedInputsAlone, UpAlone, GroupsFrom, ExpectBeyond, WordsBeside, NoJson, StrictOfOthers, NoColor}
+use Rattle.command_line.specs.declared.clash.Clash.TheVariants.{FailingAlone, JournalOfResume, ChangedInputsAlone, UpAlone, GroupsFrom, ExpectBeyond, CommandsBeside, NoJson, StrictOfOthers, NoColor}
 use Rattle.command_line.specs.declared.option_name.OptionName.{OptionName}
-use Rattle.command_line.specs.declared.option_name.OptionName.TheVariants.{Allow, ChangedInputs, Color, Course, Expect, Failing, From, Groups, Journal, Json, LockFile, Up, NoLock, Picture, Quiet, Resume, StopFile, Strict, Verbose, Words}
+use Rattle.command_line.specs.declared.option_name.OptionName.TheVariants.{Allow, ChangedInputs, Color, Commands, Expect, Failing, Forecast, From, Groups, Journal, Json, LockFile, Up, NoLock, Picture, Quiet, Resume, StopFile, Strict, Verbose}
 use Rattle.command_line.specs.declared.wishes.Wishes as declared
 use Rattle.command_line.specs.Operands.{Word}
 use Rattle.command_line.specs.OptionNames.{is_same}
@@ -48,15 +48,15 @@ tells_groups given = has Groups given || has Picture given
 
 -- more is asked of a plan, or of the table of limits, than how things stand at the start
 abbrev pub tells_beyond : List Given → Bool
-tells_beyond given = has Course given || (tells_groups given || has From given)
+tells_beyond given = has Forecast given || (tells_groups given || has From given)
 
--- nothing else is asked of a plan than its words; when tables are coloured may be said of any plan
+-- nothing else is asked of a plan than its commands; when tables are colored may be given with any plan
 abbrev pub stand_alone : List Given → Bool
 stand_alone given = not (tells_beyond given) && not (has Expect given)
 
 -- what is asked for has a form in JSON
 abbrev pub has_json : List Given → Bool
-has_json given = not (tells_groups given) && (not (has From given) && (not (has Expect given) && not (has Words given)))
+has_json given = not (tells_groups given) && (not (has From given) && (not (has Expect given) && not (has Commands given)))
 
 -- a run is asked to begin only where no name may be missing
 abbrev pub begins_strictly : Word → List Given → Bool
@@ -85,22 +85,22 @@ goes_with given holds = not given || holds
 abbrev unless : Bool → Clash → Option Clash → Option Clash
 unless holds clash others = if holds then others else Some clash
 
--- hosts fail in a course; a run that goes on is kept where it was; and where nothing begins from a journal or tells of one, no inputs are others than its own,
+-- hosts fail in a forecast; a run that goes on is kept where it was; and where nothing begins from a journal or tells of one, no inputs are others than its own,
 -- and of a run alone hosts are up by now. What begins from a journal has no table of its groups and no picture.
 abbrev pub clash_of_beginning : Word → List Given → Option Clash
 clash_of_beginning command given =
-    unless (goes_with (has Failing given) (has Course given)) FailingAlone (
+    unless (goes_with (has Failing given) (has Forecast given)) FailingAlone (
     unless (goes_with (has Journal given) (not (has Resume given))) JournalOfResume (
     unless (goes_with (has ChangedInputs given) (begins_from given || bytes_eq command (codes "state"))) ChangedInputsAlone (
     unless (goes_with (has Up given) (begins_from given || bytes_eq command (codes "run"))) UpAlone (
     unless (goes_with (has From given) (not (tells_groups given))) GroupsFrom None))))
 
--- numbers are expected of the table of limits and of the plan at the start, and words are told in place of all else. What is told of the start or the end, and of a course, has a form
+-- numbers are expected of the table of limits and of the plan at the start, and commands are printed instead of all else. What is told of the start or the end, and of a forecast, has a form
 -- in JSON. Names may be missing as the inventory has the hosts: where others are up, or a run goes on, nobody looks for them.
 abbrev pub clash_of_form : Word → List Given → Option Clash
 clash_of_form command given =
     unless (goes_with (has Expect given) (not (tells_beyond given))) ExpectBeyond (
-    unless (goes_with (has Words given) (stand_alone given)) WordsBeside (
+    unless (goes_with (has Commands given) (stand_alone given)) CommandsBeside (
     unless (goes_with (has Json given) (has_json given)) NoJson (
     unless (goes_with (begins_strictly command given) (not (begins_with_others given))) StrictOfOthers (
     unless (are_colours given) NoColor None))))
@@ -134,7 +134,7 @@ given_in (command ∷ words) = (reading_of command words).given
 
 -- what is asked for beside a line: to tell of itself, or nothing; to refuse, or to begin only where no name may be missing; to hold no lock, or that of another file; the file that ends a run; the new one in which it is kept; the journal from which a run
 -- goes on, or a plan, a rehearsal or limits begin; the hosts that are up by now, a comma behind each name; whether the inputs may be others than those of that journal; the names of the
--- hosts that fail in the course, where it is asked for; the table of groups, and when that is coloured; the file of the picture; the words of the steps; JSON; what is expected, a
+-- hosts that fail in the forecast, if one is requested; the table of groups, and when that is colored; the file of the picture; the commands of the steps; JSON; what is expected, a
 -- comma behind each list; and the kinds of notes that are allowed, likewise
 pub record Wish : Type 0 where
   pub verbose : Bool
@@ -147,11 +147,11 @@ pub record Wish : Type 0 where
   pub from : Option Word
   pub mended : Word
   pub others : Bool
-  pub course : Option Word
+  pub forecast : Option Word
   pub groups : Bool
   pub color : Option Word
   pub picture : Option Word
-  pub words : Bool
+  pub commands : Bool
   pub json : Bool
   pub expected : Option Word
   pub allowed : Word
@@ -168,11 +168,11 @@ wish_of given = record {
   from = option_or (last_value Resume given) (last_value From given);
   mended = joined_values Up given;
   others = has ChangedInputs given;
-  course = if has Course given then Some (joined_values Failing given) else None;
+  forecast = if has Forecast given then Some (joined_values Failing given) else None;
   groups = has Groups given;
   color = last_value Color given;
   picture = last_value Picture given;
-  words = has Words given;
+  commands = has Commands given;
   json = has Json given;
   expected = if has Expect given then Some (joined_values Expect given) else None;
   allowed = joined_values Allow given;
@@ -195,11 +195,11 @@ wish_as wishes = record {
   from = option_map string_bytes wishes.from;
   mended = string_bytes wishes.mended;
   others = wishes.takes_others;
-  course = option_map string_bytes wishes.course;
+  forecast = option_map string_bytes wishes.forecast;
   groups = wishes.is_grouped;
   color = option_map string_bytes wishes.color;
   picture = option_map string_bytes wishes.picture;
-  words = wishes.tells_words;
+  commands = wishes.tells_commands;
   json = wishes.is_json;
   expected = option_map string_bytes wishes.expected;
   allowed = string_bytes wishes.allowed;

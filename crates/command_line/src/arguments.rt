@@ -4,6 +4,7 @@ ghost use Rattle.clap.specs.Words.{rule_of};
 ghost use Rattle.command_line.specs.Syntax as spec;
 
 use crate::forks::DEFAULT;
+use crate::option_help::CommandName;
 use crate::option_name::OptionName;
 use clap::{Arg, ArgAction, value_parser};
 use std::alloc::Global;
@@ -16,23 +17,23 @@ pub(crate) const JOURNAL: &str = "JOURNAL";
 
 pub(crate) const PLAN: &str = "PLAN";
 
-pub(crate) const TOPIC: &str = "NUMBER|KIND";
+pub(crate) const TOPIC: &str = "NUMBER|RULE";
 
 pub(crate) const FORKS: &str = "forks";
 
-const INVENTORY_HELP: &str =
-    "The inventory: a file of JSON that lists groups with their hosts, children and variables";
+const INVENTORY_HELP: &str = "Inventory file (JSON)";
 
-const PLAYBOOK_HELP: &str =
-    "The playbook: a file of JSON that lists plays with their hosts and tasks";
+const OLD_INVENTORY_HELP: &str = "Inventory file (JSON) that the run started with";
 
-const JOURNAL_HELP: &str = "The journal: what a run has written of itself";
+const PLAYBOOK_HELP: &str = "Playbook file (JSON)";
 
-const PLAN_HELP: &str = "The plan: a file with a batch a line, as rollout plan prints it";
+const JOURNAL_HELP: &str = "Journal of the run";
 
-const TOPIC_HELP: &str = "The number of a fault, or the kind of a note of lint";
+const PLAN_HELP: &str = "Plan file: one batch of host names per line, as `rollout plan` prints";
 
-const FORKS_HELP: &str = "How many hosts are worked on at once, 1 to 64";
+const TOPIC_HELP: &str = "Error number such as 302, or lint rule such as idle-step";
+
+const FORKS_HELP: &str = "Work on up to N hosts at once, 1 to 64";
 
 pub(crate) fn inventory<'a>(alloc: Global) -> Arg<'a>
     ensures rule { rule_of result ≡ spec.inventory_argument }
@@ -41,6 +42,14 @@ pub(crate) fn inventory<'a>(alloc: Global) -> Arg<'a>
     Arg::new(alloc, INVENTORY)
         .required(true)
         .help(INVENTORY_HELP)
+}
+
+/// The inventory's file of a run that has started.
+pub(crate) fn old_inventory<'a>(alloc: Global) -> Arg<'a>
+    ensures rule { rule_of result ≡ spec.inventory_argument }
+    ensures local { result.global ≡ false }
+{
+    inventory(alloc).help(OLD_INVENTORY_HELP)
 }
 
 pub(crate) fn playbook<'a>(alloc: Global) -> Arg<'a>
@@ -57,7 +66,7 @@ pub(crate) fn journal<'a>(alloc: Global) -> Arg<'a>
     Arg::new(alloc, JOURNAL).required(true).help(JOURNAL_HELP)
 }
 
-/// The playbook's file, which need not be there.
+/// The playbook's file, which is optional.
 pub(crate) fn any_playbook<'a>(alloc: Global) -> Arg<'a>
     ensures rule { rule_of result ≡ spec.any_playbook_argument }
     ensures local { result.global ≡ false }
@@ -72,7 +81,7 @@ pub(crate) fn plan<'a>(alloc: Global) -> Arg<'a>
     Arg::new(alloc, PLAN).required(true).help(PLAN_HELP)
 }
 
-/// The number of a fault, or the name of a kind of notes.
+/// The number of an error, or the name of a lint rule.
 pub(crate) fn topic<'a>(alloc: Global) -> Arg<'a>
     ensures rule { rule_of result ≡ spec.topic_argument }
     ensures local { result.global ≡ false }
@@ -92,17 +101,17 @@ pub(crate) fn forks<'a>(alloc: Global) -> Arg<'a>
         .help(FORKS_HELP)
 }
 
-/// An option that is taken out of the words before clap reads them. It stands in the help, and clap says what is wrong where its value is wanting, or where it has nothing to go with.
-pub(crate) fn option<'a>(alloc: Global, option: OptionName, is_run: bool) -> Arg<'a>
+/// An option of this command that is taken out of the words before clap reads them. The help lists it, and clap reports it if its value is missing, or if it has one and should not.
+pub(crate) fn option<'a>(alloc: Global, option: OptionName, owner: CommandName) -> Arg<'a>
     ensures rule { rule_of result ≡ spec.argument_of option }
     ensures local { result.global ≡ false }
 {
     if option.has_value() {
-        valued(alloc, option.id(), option.value_name(), option.help(is_run))
+        valued(alloc, option.id(), option.value_name(), option.help(owner))
     } else if option.is(OptionName::Verbose) {
-        flag(alloc, option.id(), option.help(is_run)).short('v')
+        flag(alloc, option.id(), option.help(owner)).short('v')
     } else {
-        flag(alloc, option.id(), option.help(is_run))
+        flag(alloc, option.id(), option.help(owner))
     }
 }
 

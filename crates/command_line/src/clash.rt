@@ -5,7 +5,7 @@ ghost use Rattle.command_line.specs.Clashes as spec;
 /// Why the words of a line don't go together.
 #[derive(Clone, Copy, Debug)]
 pub enum Clash {
-    /// Hosts fail in a course that isn't asked for.
+    /// Hosts fail in a forecast that isn't requested.
     FailingAlone,
     /// A run that goes on is to be kept in another journal than its own.
     JournalOfResume,
@@ -17,8 +17,8 @@ pub enum Clash {
     GroupsFrom,
     /// A number is expected of more than the start.
     ExpectBeyond,
-    /// The words of the steps, and something else.
-    WordsBeside,
+    /// The commands of the steps, and something else.
+    CommandsBeside,
     /// What has no form in JSON.
     NoJson,
     /// Names are looked for where other hosts are up than the inventory has.
@@ -35,7 +35,7 @@ impl Clash {
         ensures { result.now ≡ spec.text_of self }
     {
         match self {
-            Clash::FailingAlone => "error: --failing goes with --course\n",
+            Clash::FailingAlone => "error: --failing goes with --forecast\n",
             Clash::JournalOfResume => {
                 "error: --journal doesn't go with --resume: a run that goes on is kept in the journal that --resume names\n"
             }
@@ -45,13 +45,13 @@ impl Clash {
             Clash::UpAlone => "error: --up goes with run, and else with --from\n",
             Clash::GroupsFrom => "error: --from doesn't go with --groups and --picture\n",
             Clash::ExpectBeyond => {
-                "error: --expect doesn't go with --course, --groups, --picture and --from\n"
+                "error: --expect doesn't go with --forecast, --groups, --picture and --from\n"
             }
-            Clash::WordsBeside => {
-                "error: --words doesn't go with --course, --groups, --picture, --from and --expect\n"
+            Clash::CommandsBeside => {
+                "error: --commands doesn't go with --forecast, --groups, --picture, --from and --expect\n"
             }
             Clash::NoJson => {
-                "error: --json doesn't go with --groups, --picture, --from, --expect and --words\n"
+                "error: --json doesn't go with --groups, --picture, --from, --expect and --commands\n"
             }
             Clash::StrictOfOthers => {
                 "error: --strict of a run doesn't go with --resume and --up\n"

@@ -26,12 +26,12 @@ pub(crate) const OF_RUN: &[OptionName] = &[
 ];
 
 pub(crate) const OF_PLAN: &[OptionName] = &[
-    OptionName::Course,
+    OptionName::Forecast,
     OptionName::Failing,
     OptionName::Groups,
     OptionName::Color,
     OptionName::Picture,
-    OptionName::Words,
+    OptionName::Commands,
     OptionName::Expect,
     OptionName::From,
     OptionName::Up,
@@ -100,7 +100,7 @@ fn clash_of_beginning(command: &String, given: &[Given]) -> Option<Clash>
     let from = begins_from(given);
     if !goes_with(
         has(given, OptionName::Failing),
-        has(given, OptionName::Course),
+        has(given, OptionName::Forecast),
     ) {
         Some(Clash::FailingAlone)
     } else if !goes_with(
@@ -128,8 +128,8 @@ fn clash_of_form(command: &String, given: &[Given]) -> Option<Clash>
 {
     if !goes_with(has(given, OptionName::Expect), !tells_beyond(given)) {
         Some(Clash::ExpectBeyond)
-    } else if !goes_with(has(given, OptionName::Words), stand_alone(given)) {
-        Some(Clash::WordsBeside)
+    } else if !goes_with(has(given, OptionName::Commands), stand_alone(given)) {
+        Some(Clash::CommandsBeside)
     } else if !goes_with(has(given, OptionName::Json), has_json(given)) {
         Some(Clash::NoJson)
     } else if !goes_with(begins_strictly(command, given), !begins_with_others(given)) {
@@ -184,10 +184,10 @@ fn tells_groups(given: &[Given]) -> bool
 fn tells_beyond(given: &[Given]) -> bool
     ensures { result ≡ spec.tells_beyond (map given_as given.now) }
 {
-    has(given, OptionName::Course) || tells_groups(given) || has(given, OptionName::From)
+    has(given, OptionName::Forecast) || tells_groups(given) || has(given, OptionName::From)
 }
 
-/// Whether nothing else is asked of a plan than its words. When tables are coloured may be said of any plan.
+/// Whether nothing else is asked of a plan than its commands. When tables are colored may be given with any plan.
 fn stand_alone(given: &[Given]) -> bool
     ensures { result ≡ spec.stand_alone (map given_as given.now) }
 {
@@ -201,7 +201,7 @@ fn has_json(given: &[Given]) -> bool
     !tells_groups(given)
         && !has(given, OptionName::From)
         && !has(given, OptionName::Expect)
-        && !has(given, OptionName::Words)
+        && !has(given, OptionName::Commands)
 }
 
 /// Whether a run is asked to begin only where no name may be missing.

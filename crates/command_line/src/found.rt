@@ -108,7 +108,7 @@ pub(crate) fn lint_playbook<'a>(matches: &ArgMatches<'a>) -> Option<&'a str>
 
 /// The word that is explained, where the command is `explain`.
 pub(crate) fn explain_word<'a>(matches: &ArgMatches<'a>) -> Option<&'a str>
-    ensures { option_map (λ s. s.now) result ≡ spec.file_in (codes "explain") (codes "NUMBER|KIND") (subcommand_rows_of matches.now) }
+    ensures { option_map (λ s. s.now) result ≡ spec.file_in (codes "explain") (codes "NUMBER|RULE") (subcommand_rows_of matches.now) }
 {
     matches.subcommand_matches("explain")?.get_str(TOPIC)
 }

@@ -2,8 +2,25 @@
 
 use crate::option_name::OptionName;
 
+/// A command whose help lists options.
+#[derive(Clone, Copy, Debug)]
+pub(crate) enum CommandName {
+    Limits,
+    Plan,
+    Run,
+    Rehearse,
+    State,
+    Lint,
+}
+
+const UP: &str = "With --from, count these hosts and groups as up (comma-separated)";
+
+const CHANGED_INPUTS: &str = "With --from, accept inputs that changed since the run started";
+
+const VERBOSE: &str = "Add a hint to errors (default on a terminal)";
+
 impl OptionName {
-    /// What stands for its value.
+    /// The placeholder of its value.
     pub(crate) fn value_name<'a>(self) -> &'a str {
         match self {
             OptionName::Color => "WHEN",
@@ -15,83 +32,114 @@ impl OptionName {
         }
     }
 
-    /// What it asks of a run, or else of another command.
-    pub(crate) fn help<'a>(self, is_run: bool) -> &'a str {
-        if is_run {
-            self.help_of_run()
-        } else {
-            self.help_of_others()
+    /// What it makes this command do, which has it.
+    pub(crate) fn help<'a>(self, owner: CommandName) -> &'a str {
+        match owner {
+            CommandName::Limits => self.help_of_limits(),
+            CommandName::Plan => self.help_of_plan(),
+            CommandName::Run => self.help_of_run(),
+            CommandName::Rehearse => self.help_of_rehearse(),
+            CommandName::State => self.help_of_state(),
+            CommandName::Lint => self.help_of_lint(),
+        }
+    }
+
+    fn help_of_limits<'a>(self) -> &'a str {
+        match self {
+            OptionName::Expect => {
+                "Exit 1 unless the numbers match LIST: NAME=N or NAME<=N, comma-separated"
+            }
+            OptionName::From => "Count hosts as down by this run's journal",
+            OptionName::Up => UP,
+            OptionName::ChangedInputs => {
+                "With --from, accept an inventory that changed since the run started"
+            }
+            OptionName::Json => "Print the table, and any error, as JSON",
+            OptionName::Verbose => VERBOSE,
+            _ => "",
+        }
+    }
+
+    fn help_of_plan<'a>(self) -> &'a str {
+        match self {
+            OptionName::Commands => {
+                "Print the command each step would run on each host, instead of the plan"
+            }
+            OptionName::Expect => "Exit 1 unless the plan matches LIST: batches=N or batches<=N",
+            OptionName::From => "Plan what `run --resume JOURNAL` would do",
+            OptionName::Up => UP,
+            OptionName::ChangedInputs => CHANGED_INPUTS,
+            OptionName::Json => "Print the plan, and any error, as JSON",
+            OptionName::Verbose => {
+                "Name skipped hosts, and add a hint to errors (default on a terminal)"
+            }
+            other => other.help_of_forecasts(),
+        }
+    }
+
+    /// What the options of `plan` print or draw that look beyond the first batch.
+    fn help_of_forecasts<'a>(self) -> &'a str {
+        match self {
+            OptionName::Forecast => "Forecast a whole run, play by play, if no host fails",
+            OptionName::Failing => {
+                "With --forecast, fail these hosts and groups at their first step (comma-separated)"
+            }
+            OptionName::Groups => {
+                "Also show how many hosts of each limited group are down in each batch"
+            }
+            OptionName::Color => "Color groups at their limit: auto (default), always or never",
+            OptionName::Picture => "Draw the forecast as SVG into FILE",
+            _ => "",
         }
     }
 
     fn help_of_run<'a>(self) -> &'a str {
         match self {
-            OptionName::Verbose => {
-                "Tells on standard error of each batch, and of each step of each host"
+            OptionName::Verbose => "Report every batch and step on standard error",
+            OptionName::Quiet => "Show no progress, even on a terminal (-v overrides)",
+            OptionName::StopFile => "Stop before the next batch once FILE exists",
+            OptionName::Journal => {
+                "Record each host's state in a new FILE, before and after each batch"
             }
+            OptionName::Resume => "Continue the run recorded in JOURNAL, and append to it",
             OptionName::Up => {
-                "These hosts and groups, parted by commas, are up by now, though the inventory or the journal has them as down"
+                "Count these hosts and groups as up, despite inventory or journal (comma-separated)"
             }
             OptionName::ChangedInputs => {
-                "Beside --resume the inputs may be others than those with which the run began"
-            }
-            OptionName::Quiet => {
-                "Tells nothing unasked, also at a terminal; beside -v it changes nothing"
-            }
-            OptionName::StopFile => "Ends the run before the next batch once this file is there",
-            OptionName::Journal => {
-                "Keeps in this new file what becomes of each host, before and behind each batch"
-            }
-            OptionName::Resume => {
-                "Goes on with the run of this journal, which broke off, and keeps it there"
-            }
-            OptionName::Strict => {
-                "Runs nothing where a step may look for a name that has no value on a host"
+                "With --resume, accept inputs that changed since the run started"
             }
             OptionName::LockFile => {
-                "Lock this file, made if missing, instead of the inventory, to keep a second run out"
+                "Lock FILE, made if missing, instead of the inventory, to keep out a second run"
             }
-            OptionName::NoLock => "Lock nothing: another run of the inventory isn't kept out",
-            other => other.help_of_others(),
+            OptionName::NoLock => "Lock nothing: a second run of the inventory isn't kept out",
+            OptionName::Strict => "Run nothing if a step might read an undefined name",
+            OptionName::Json => "Print the recap, and any error, as JSON",
+            _ => "",
         }
     }
 
-    fn help_of_others<'a>(self) -> &'a str {
+    fn help_of_rehearse<'a>(self) -> &'a str {
         match self {
-            OptionName::Course => {
-                "Prints what a run would open to its end, play by play, where no program fails"
-            }
-            OptionName::Failing => {
-                "Beside --course these hosts and groups, parted by commas, fail at their first step"
-            }
-            OptionName::Groups => {
-                "Prints below it how many hosts of each limited group are down while each batch runs"
-            }
-            OptionName::Color => {
-                "Colours groups that are full: auto (at a terminal, unless NO_COLOR is set), always or never"
-            }
-            OptionName::Picture => "Writes the course as a picture, in SVG, into this file",
-            OptionName::Words => {
-                "Prints in its place which words each step would run on which host"
-            }
-            OptionName::Expect => {
-                "Ends with status 1 where a number isn't as this list says: NAME=NUMBER or NAME<=NUMBER, parted by commas"
-            }
-            OptionName::Allow => "These kinds of notes, parted by commas, are not told",
-            OptionName::Strict => "Ends with status 1 where a command was refused",
-            OptionName::Json => "Prints it, and a fault, as JSON",
-            OptionName::Verbose => {
-                "Tells more on standard error: which hosts are left out, and behind a refusal what was expected"
-            }
-            OptionName::From => {
-                "Begins where the run of this journal stands, as --resume would have it go on"
-            }
-            OptionName::Up => {
-                "Beside --from these hosts and groups, parted by commas, are up by now"
-            }
-            OptionName::ChangedInputs => {
-                "The inputs may be others than those with which the run of the journal began"
-            }
+            OptionName::Strict => "Exit 1 if a command was refused",
+            OptionName::From => "Start where `run --resume JOURNAL` would continue",
+            OptionName::Up => UP,
+            OptionName::ChangedInputs => CHANGED_INPUTS,
+            OptionName::Json => "Print each answer, and any error, as JSON",
+            OptionName::Verbose => VERBOSE,
+            _ => "",
+        }
+    }
+
+    fn help_of_state<'a>(self) -> &'a str {
+        match self {
+            OptionName::ChangedInputs => "Accept an inventory that changed since the run started",
+            _ => "",
+        }
+    }
+
+    fn help_of_lint<'a>(self) -> &'a str {
+        match self {
+            OptionName::Allow => "Suppress these lint rules (comma-separated)",
             _ => "",
         }
     }

@@ -11,9 +11,10 @@ pub(crate) enum OptionName {
     Allow,
     ChangedInputs,
     Color,
-    Course,
+    Commands,
     Expect,
     Failing,
+    Forecast,
     From,
     Groups,
     Journal,
@@ -27,7 +28,6 @@ pub(crate) enum OptionName {
     StopFile,
     Strict,
     Verbose,
-    Words,
 }
 
 impl OptionName {
@@ -39,9 +39,10 @@ impl OptionName {
             OptionName::Allow => "--allow",
             OptionName::ChangedInputs => "--changed-inputs",
             OptionName::Color => "--color",
-            OptionName::Course => "--course",
+            OptionName::Commands => "--commands",
             OptionName::Expect => "--expect",
             OptionName::Failing => "--failing",
+            OptionName::Forecast => "--forecast",
             OptionName::From => "--from",
             OptionName::Groups => "--groups",
             OptionName::Journal => "--journal",
@@ -55,7 +56,6 @@ impl OptionName {
             OptionName::StopFile => "--stop-file",
             OptionName::Strict => "--strict",
             OptionName::Verbose => "--verbose",
-            OptionName::Words => "--words",
         }
     }
 
@@ -83,14 +83,14 @@ impl OptionName {
             | OptionName::Resume
             | OptionName::StopFile => true,
             OptionName::ChangedInputs
-            | OptionName::Course
+            | OptionName::Commands
+            | OptionName::Forecast
             | OptionName::Groups
             | OptionName::Json
             | OptionName::NoLock
             | OptionName::Quiet
             | OptionName::Strict
-            | OptionName::Verbose
-            | OptionName::Words => false,
+            | OptionName::Verbose => false,
         }
     }
 

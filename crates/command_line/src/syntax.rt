@@ -5,39 +5,41 @@ ghost use Rattle.clap.specs.declared.builder.command.Command.TheViews.{out-Comma
 ghost use Rattle.command_line.specs.Syntax as spec;
 
 use crate::arguments;
-use crate::arguments::{any_playbook, forks, inventory, journal, option, playbook, topic};
+use crate::arguments::{
+    any_playbook, forks, inventory, journal, old_inventory, option, playbook, topic,
+};
 use crate::fitting::{OF_LIMITS, OF_LINT, OF_PLAN, OF_REHEARSAL, OF_RUN, OF_STATE};
+use crate::option_help::CommandName;
 use crate::option_name::OptionName;
 use clap::error::ErrorKind;
 use clap::{ArgMatches, Command, Error};
 use std::alloc::{AllocError, Global};
 
 const NOTES: &str = "\
-INV is the inventory: a file of JSON that lists groups with their hosts, children and variables.
-PLAY is the playbook: a file of JSON that lists plays with their hosts and tasks.
-Without any word, rollout reads an inventory from standard input and prints its limits.
+INV is an inventory and PLAY a playbook, both JSON in Ansible's layout.
+Without arguments, rollout reads an inventory from standard input and shows its limits.
 
 Exit status:
-  0  what was asked for was done
-  1  the line, an input or a write was refused
-  2  a run finished, and a host has failed
-  3  hosts wait in a group that has no room
-  4  a batch ended the run: too many of its hosts have failed, or all
-  5  want of memory
-  6  a run ended before its plays did: stopped, interrupted, or its journal is not written
-  7  a run goes on, by its journal";
+  0  success
+  1  rejected arguments or input, I/O error, or findings of lint or check
+  2  a run finished with failed hosts
+  3  waiting hosts have no room
+  4  a batch ended the run: too many of its hosts failed, or all
+  5  out of memory
+  6  the run was stopped or interrupted, or its journal can't be written
+  7  the run is still running (state)";
 
 const COMMANDS: &str = "\
-Standard input has a command a line, about the first play of PLAY. Nothing is run.
-  advance [HOST ..]  the next batch is over, and of it just these hosts failed
-  next N             the next N batches are over, and just the marked hosts failed in them
-  finish             the same of all batches, to the end of the play
-  fail HOST          marks a host, which then fails as soon as its batch is over
-  undo               takes the last of these back, whole
-  plan               the plan of the hosts that still wait
-  show               how each host stands, and whether the play has ended
-  hosts GROUP        how each host of a group stands, and its batch in the plan
-  help, quit         the list of commands; the end of the session";
+Commands on standard input, one per line:
+  advance [HOST ..]  finish the next batch; these hosts and the marked ones fail
+  next N             finish the next N batches; only marked hosts fail
+  finish             finish all batches; only marked hosts fail
+  fail HOST          mark a host to fail in its batch
+  undo               undo the last advance, next, finish or fail
+  plan               print the plan for the hosts still waiting
+  show               print each host's state, and how the play ended, if it did
+  hosts GROUP        print each host of a group, its state and its batch
+  help, quit         list these commands; end the session";
 
 fn rollout<'a>(alloc: Global) -> Result<Command<'a>, AllocError>
     ensures { IfOk result (λ c. app_of c ≡ spec.rollout) }
@@ -45,9 +47,7 @@ fn rollout<'a>(alloc: Global) -> Result<Command<'a>, AllocError>
     Command::new(alloc, "rollout")
         .bin_name("rollout")?
         .version("0.2.0")
-        .about(
-            "Updates a fleet batch by batch, with no group losing more hosts at once than it may",
-        )
+        .about("Update a fleet in batches, never exceeding a group's limit of down hosts")
         .after_help(NOTES)
         .no_binary_name(true)
         .subcommand_required(true)
@@ -61,33 +61,33 @@ fn rollout<'a>(alloc: Global) -> Result<Command<'a>, AllocError>
         .subcommand(explain(alloc)?)
 }
 
-/// The command with this option, which stands in its help alone.
+/// Adds the option to the command, for its help and for what clap says of a bad line.
 fn with_option<'a>(
     alloc: Global,
     command: Command<'a>,
     name: OptionName,
-    is_run: bool,
+    owner: CommandName,
 ) -> Result<Command<'a>, AllocError>
     ensures app { IfOk result (λ c. app_of c ≡ with_rule (app_of command.entry) (spec.argument_of name)) }
     ensures local { IfOk result (λ c. (fields_of c).has_globals ≡ (fields_of command.entry).has_globals) }
 {
-    command.arg(option(alloc, name, is_run))
+    command.arg(option(alloc, name, owner))
 }
 
-/// The command with these options.
+/// Adds these options to the command.
 fn with_options<'a>(
     alloc: Global,
     command: Command<'a>,
     options: &[OptionName],
-    is_run: bool,
+    owner: CommandName,
 ) -> Result<Command<'a>, AllocError>
     ensures app { IfOk result (λ c. app_of c ≡ spec.with_options (app_of command.entry) options.now) }
     ensures local { IfOk result (λ c. (fields_of c).has_globals ≡ (fields_of command.entry).has_globals) }
 {
     match options {
         [first, rest @ ..] => {
-            let more = with_option(alloc, command, *first, is_run)?;
-            with_options(alloc, more, rest, is_run)
+            let more = with_option(alloc, command, *first, owner)?;
+            with_options(alloc, more, rest, owner)
         }
         [] => Ok(command),
     }
@@ -98,9 +98,9 @@ fn limits<'a>(alloc: Global) -> Result<Command<'a>, AllocError>
     ensures local { IfOk result (λ c. (fields_of c).has_globals ≡ false) }
 {
     let bare = Command::new(alloc, "limits")
-        .about("Prints each limited group: its members, how many are down, its limit and its room")
+        .about("Show each limited group: members, hosts down, limit, room")
         .arg(inventory(alloc))?;
-    with_options(alloc, bare, OF_LIMITS, false)
+    with_options(alloc, bare, OF_LIMITS, CommandName::Limits)
 }
 
 fn plan<'a>(alloc: Global) -> Result<Command<'a>, AllocError>
@@ -108,12 +108,10 @@ fn plan<'a>(alloc: Global) -> Result<Command<'a>, AllocError>
     ensures local { IfOk result (λ c. (fields_of c).has_globals ≡ false) }
 {
     let bare = Command::new(alloc, "plan")
-        .about(
-            "Prints the fewest batches that update the hosts of a play, and what forces their number",
-        )
+        .about("Plan the fewest batches for the first play, and say what forces that number")
         .arg(inventory(alloc))?
         .arg(playbook(alloc))?;
-    with_options(alloc, bare, OF_PLAN, false)
+    with_options(alloc, bare, OF_PLAN, CommandName::Plan)
 }
 
 fn run<'a>(alloc: Global) -> Result<Command<'a>, AllocError>
@@ -121,11 +119,11 @@ fn run<'a>(alloc: Global) -> Result<Command<'a>, AllocError>
     ensures local { IfOk result (λ c. (fields_of c).has_globals ≡ false) }
 {
     let bare = Command::new(alloc, "run")
-        .about("Updates the hosts of each play batch by batch, and prints what came of them")
+        .about("Run the plays batch by batch, then print a recap")
         .arg(inventory(alloc))?
         .arg(playbook(alloc))?
         .arg(forks(alloc))?;
-    with_options(alloc, bare, OF_RUN, true)
+    with_options(alloc, bare, OF_RUN, CommandName::Run)
 }
 
 fn rehearse<'a>(alloc: Global) -> Result<Command<'a>, AllocError>
@@ -133,13 +131,11 @@ fn rehearse<'a>(alloc: Global) -> Result<Command<'a>, AllocError>
     ensures local { IfOk result (λ c. (fields_of c).has_globals ≡ false) }
 {
     let bare = Command::new(alloc, "rehearse")
-        .about(
-            "Answers what a run of a play would come to if these hosts failed, command by command",
-        )
+        .about("Try out failures on the first play, interactively; run nothing")
         .after_help(COMMANDS)
         .arg(inventory(alloc))?
         .arg(playbook(alloc))?;
-    with_options(alloc, bare, OF_REHEARSAL, false)
+    with_options(alloc, bare, OF_REHEARSAL, CommandName::Rehearse)
 }
 
 fn state<'a>(alloc: Global) -> Result<Command<'a>, AllocError>
@@ -147,10 +143,10 @@ fn state<'a>(alloc: Global) -> Result<Command<'a>, AllocError>
     ensures local { IfOk result (λ c. (fields_of c).has_globals ≡ false) }
 {
     let bare = Command::new(alloc, "state")
-        .about("Prints how each host stands by a run's journal, and whether the run has ended")
-        .arg(inventory(alloc))?
+        .about("Show each host's state from a run's journal, and whether the run ended")
+        .arg(old_inventory(alloc))?
         .arg(journal(alloc))?;
-    with_options(alloc, bare, OF_STATE, false)
+    with_options(alloc, bare, OF_STATE, CommandName::State)
 }
 
 fn check<'a>(alloc: Global) -> Result<Command<'a>, AllocError>
@@ -158,7 +154,7 @@ fn check<'a>(alloc: Global) -> Result<Command<'a>, AllocError>
     ensures local { IfOk result (λ c. (fields_of c).has_globals ≡ false) }
 {
     Command::new(alloc, "check")
-        .about("Tells whether a text is a plan of a play, and how many batches the least one has")
+        .about("Check a batch plan written elsewhere")
         .arg(inventory(alloc))?
         .arg(playbook(alloc))?
         .arg(arguments::plan(alloc))
@@ -169,12 +165,10 @@ fn lint<'a>(alloc: Global) -> Result<Command<'a>, AllocError>
     ensures local { IfOk result (λ c. (fields_of c).has_globals ≡ false) }
 {
     let bare = Command::new(alloc, "lint")
-        .about(
-            "Prints every fault of the files with what helps, or else what is probably not meant",
-        )
+        .about("Report every error and probable mistake in the files")
         .arg(inventory(alloc))?
         .arg(any_playbook(alloc))?;
-    with_options(alloc, bare, OF_LINT, false)
+    with_options(alloc, bare, OF_LINT, CommandName::Lint)
 }
 
 fn explain<'a>(alloc: Global) -> Result<Command<'a>, AllocError>
@@ -182,7 +176,7 @@ fn explain<'a>(alloc: Global) -> Result<Command<'a>, AllocError>
     ensures local { IfOk result (λ c. (fields_of c).has_globals ≡ false) }
 {
     Command::new(alloc, "explain")
-        .about("Prints what a fault or a kind of notes means, with an example, and what to do")
+        .about("Explain an error number or a lint rule, with an example and a fix")
         .arg(topic(alloc))
 }
 

@@ -33,16 +33,16 @@ pub struct Wishes {
     pub mended: String,
     /// Whether the inputs may be others than those with which the run of that journal began.
     pub takes_others: bool,
-    /// Where a plan is asked for its course, the names of the hosts that are to fail in it, a comma behind each.
-    pub course: Option<String>,
-    /// Whether a plan, or its course, tells how full its groups are.
+    /// If a forecast is requested, the names of the hosts that fail in it, a comma behind each.
+    pub forecast: Option<String>,
+    /// Whether a plan, or a forecast, shows how full its groups are.
     pub is_grouped: bool,
-    /// When the tables of groups are coloured: `auto`, `always` or `never`; `auto` where it is not said.
+    /// When the tables of groups are colored: `auto`, `always` or `never`; `auto` by default.
     pub color: Option<String>,
-    /// The file into which the course of a plan is drawn.
+    /// The file into which the forecast is drawn.
     pub picture: Option<String>,
-    /// Whether a plan is asked for the words of its steps.
-    pub tells_words: bool,
+    /// Whether the commands of the steps are printed instead of a plan.
+    pub tells_commands: bool,
     /// Whether what goes out is JSON.
     pub is_json: bool,
     /// Where numbers are expected of the table of limits or of a plan, their lists, a comma behind each.
@@ -67,11 +67,11 @@ impl Wishes {
             from: None,
             mended: String::new(alloc),
             takes_others: false,
-            course: None,
+            forecast: None,
             is_grouped: false,
             color: None,
             picture: None,
-            tells_words: false,
+            tells_commands: false,
             is_json: false,
             expected: None,
             allowed: String::new(alloc),
@@ -94,11 +94,11 @@ pub(crate) fn wishes_of(alloc: Global, given: &[Given]) -> Result<Wishes, AllocE
         from: begins_from(alloc, given)?,
         mended: joined(alloc, given, OptionName::Up)?,
         takes_others: has(given, OptionName::ChangedInputs),
-        course: course_of(alloc, given)?,
+        forecast: forecast_of(alloc, given)?,
         is_grouped: has(given, OptionName::Groups),
         color: last(alloc, given, OptionName::Color)?,
         picture: last(alloc, given, OptionName::Picture)?,
-        tells_words: has(given, OptionName::Words),
+        tells_commands: has(given, OptionName::Commands),
         is_json: has(given, OptionName::Json),
         expected: joined_if_given(alloc, given, OptionName::Expect)?,
         allowed: joined(alloc, given, OptionName::Allow)?,
@@ -132,12 +132,12 @@ fn begins_from(alloc: Global, given: &[Given]) -> Result<Option<String>, AllocEr
     }
 }
 
-/// The names of the hosts that are to fail in the course, where one is asked for.
-fn course_of(alloc: Global, given: &[Given]) -> Result<Option<String>, AllocError>
-    ensures { IfOk result (λ course. option_map string_bytes course
-        ≡ (if spec.has option.Course (map given_as given.now) then Some (spec.joined_values option.Failing (map given_as given.now)) else None)) }
+/// The names of the hosts that fail in the forecast, if one is requested.
+fn forecast_of(alloc: Global, given: &[Given]) -> Result<Option<String>, AllocError>
+    ensures { IfOk result (λ forecast. option_map string_bytes forecast
+        ≡ (if spec.has option.Forecast (map given_as given.now) then Some (spec.joined_values option.Failing (map given_as given.now)) else None)) }
 {
-    if has(given, OptionName::Course) {
+    if has(given, OptionName::Forecast) {
         Ok(Some(joined(alloc, given, OptionName::Failing)?))
     } else {
         Ok(None)

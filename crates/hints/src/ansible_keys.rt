@@ -92,7 +92,7 @@ const KEYS: &[Row] = &[
     ),
     (
         "check_mode diff",
-        "leave it out; plan --words and rehearse show what would run",
+        "leave it out; plan --commands and rehearse show what would run",
     ),
     (
         "no_log",

@@ -1,4 +1,4 @@
--- What `plan --course --groups` writes of the texts of an inventory and a playbook.
+-- What `plan --forecast --groups` writes of the texts of an inventory and a playbook.
 use Rattle.std.specs.Prelude.{◌≡◌, ℕ, ◌+◌, Bool, nat_lt, Option, None, List, ◌++◌, length}
 use Rattle.std.specs.List.{find, sum_by}
 use Rattle.std.specs.Io.KnownBytes.{Appends}

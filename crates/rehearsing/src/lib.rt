@@ -1,4 +1,4 @@
-//! The command `rehearse`: boundaries on a stack, and from bytes and lines to answers. And `plan --course`: what a run would open to its end.
+//! The command `rehearse`: boundaries on a stack, and from bytes and lines to answers. And `plan --forecast`: what a run would open to its end.
 #![tactic(auto)]
 
 mod advance;

@@ -51,9 +51,9 @@ TabulatesBy (Some journal) wish sources inventory input_old input_new out_old ou
 -- the command `plan` from the start; numbers may be expected of the plan, or it is asked for as JSON
 abbrev pub PlansAtStart : Option (List ℕ) → Bool → Wish → Sources → Source → Source → Option (List ℕ) → Option (List ℕ) → Option (List ℕ) → Option (List ℕ) → Result Status Fault → Type 0
 PlansAtStart None true wish sources inventory playbook input_old input_new out_old out_new result =
-    PlansJson wish.course sources inventory playbook input_old input_new out_old out_new result
+    PlansJson wish.forecast sources inventory playbook input_old input_new out_old out_new result
 PlansAtStart None false wish sources inventory playbook input_old input_new out_old out_new result =
-    PlansDrawn wish.picture wish.groups wish.color wish.course sources inventory playbook input_old input_new out_old out_new result
+    PlansDrawn wish.picture wish.groups wish.color wish.forecast sources inventory playbook input_old input_new out_old out_new result
 PlansAtStart (Some list) json wish sources inventory playbook input_old input_new out_old out_new result = ExpectsPlan list sources inventory playbook input_old input_new out_old out_new result
 
 -- the words of the steps, where it is asked for them
@@ -65,9 +65,9 @@ PlansOrTellsWords false wish sources inventory playbook input_old input_new out_
 -- the command `plan`, from the start or from where the run of a journal would go on
 abbrev pub PlansFrom : Option (List ℕ) → Wish → Sources → Source → Source → Option (List ℕ) → Option (List ℕ) → Option (List ℕ) → Option (List ℕ) → Result Status Fault → Type 0
 PlansFrom None wish sources inventory playbook input_old input_new out_old out_new result =
-    PlansOrTellsWords wish.words wish sources inventory playbook input_old input_new out_old out_new result
+    PlansOrTellsWords wish.commands wish sources inventory playbook input_old input_new out_old out_new result
 PlansFrom (Some journal) wish sources inventory playbook input_old input_new out_old out_new result =
-    PlansRest wish.course sources inventory playbook (resume_wish journal wish) input_old input_new out_old out_new result
+    PlansRest wish.forecast sources inventory playbook (resume_wish journal wish) input_old input_new out_old out_new result
 
 -- the command `rehearse`, likewise
 abbrev pub RehearsesBy : Option (List ℕ) → Wish → Sources → Source → Source → Option (List ℕ) → Option (List ℕ) → Option (List ℕ) → Option (List ℕ) → Result Status Fault → Type 0

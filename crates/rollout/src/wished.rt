@@ -154,7 +154,7 @@ pub fn plan_or_rest<S: System, T: Watch, I: Input, O: Write>(
             inventory,
             playbook,
             resume_wish(journal, wishes, None),
-            &wishes.course,
+            &wishes.forecast,
             input,
             out,
         ),
@@ -176,7 +176,7 @@ fn plan_noted<S: System, T: Watch, I: Input, O: Write>(
     input: &mut I,
     out: &mut O,
 ) -> Result<Status, Fault>
-    ensures { PlansOrTellsWords (wish_as wishes.now).words (wish_as wishes.now) (sources_of (S.known system.now) (I.is_reliable input.old)) inventory playbook
+    ensures { PlansOrTellsWords (wish_as wishes.now).commands (wish_as wishes.now) (sources_of (S.known system.now) (I.is_reliable input.old)) inventory playbook
         (I.remaining input.old) (I.remaining input.new) (O.contents out.old) (O.contents out.new) result }
 {
     if is_wanted(system, wishes) {
@@ -209,10 +209,10 @@ fn plan_or_words<S: System, T: Watch, I: Input, O: Write>(
     input: &mut I,
     out: &mut O,
 ) -> Result<Status, Fault>
-    ensures { PlansOrTellsWords (wish_as wishes.now).words (wish_as wishes.now) (sources_of (S.known system.now) (I.is_reliable input.old)) inventory playbook
+    ensures { PlansOrTellsWords (wish_as wishes.now).commands (wish_as wishes.now) (sources_of (S.known system.now) (I.is_reliable input.old)) inventory playbook
         (I.remaining input.old) (I.remaining input.new) (O.contents out.old) (O.contents out.new) result }
 {
-    if wishes.tells_words {
+    if wishes.tells_commands {
         words(system, alloc, watch, inventory, playbook, input, out)
     } else {
         plan_at_start(
@@ -253,7 +253,7 @@ fn plan_at_start<S: System, T: Watch, I: Input, O: Write>(
             watch,
             inventory,
             playbook,
-            &wishes.course,
+            &wishes.forecast,
             input,
             out,
         ),

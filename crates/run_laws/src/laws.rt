@@ -12,7 +12,7 @@ pub fn runs_go_as_rehearsed<R: Runner>(runner: &R)
     ensures broken { BrokenRunsGoAsRehearsed (R.may runner.now) }
 {}
 
-/// The runs of a file of plays, with any number of workers, open what its course says in which the same hosts fail at the same steps: the course that `plan --course` prints has
+/// The runs of a file of plays, with any number of workers, open what its course says in which the same hosts fail at the same steps: the course that `plan --forecast` prints has
 /// the boundary lines and the ends of their recaps. So do runs that go on in the midst of a file, by the course from the statuses with which they go on. Of a host whose batch was not behind a run doesn't matter what would have failed on it.
 pub fn runs_open_their_courses<R: Runner>(runner: &R)
     ensures { RunsOpenTheirCourses (R.may runner.now) }

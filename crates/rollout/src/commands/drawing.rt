@@ -24,7 +24,7 @@ use std::io::Write;
 
 /// The names of the hosts that fail in the course.
 fn failing_of(wishes: &Wishes) -> &str {
-    match &wishes.course {
+    match &wishes.forecast {
         Some(failing) => failing.as_str(),
         None => "",
     }

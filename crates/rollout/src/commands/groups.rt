@@ -32,11 +32,11 @@ pub fn groups<S: System, T: Watch, I: Input, W: Write>(
     input: &mut I,
     out: &mut W,
 ) -> Result<Status, Fault>
-    ensures { SurveysIn (option_map string_bytes wishes.now.color) (option_map string_bytes wishes.now.course) (sources_of (S.known system.now) (I.is_reliable input.old)) inventory playbook
+    ensures { SurveysIn (option_map string_bytes wishes.now.color) (option_map string_bytes wishes.now.forecast) (sources_of (S.known system.now) (I.is_reliable input.old)) inventory playbook
         (I.remaining input.old) (I.remaining input.new) (W.contents out.old) (W.contents out.new) result }
 {
     let paint = paint_of(system, &wishes.color);
-    let failing = &wishes.course;
+    let failing = &wishes.forecast;
     match read_both(system, alloc, inventory, playbook, input) {
         Ok((inventory, playbook)) => {
             let inventory = inventory.as_slice();

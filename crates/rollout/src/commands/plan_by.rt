@@ -66,10 +66,10 @@ fn print_plan<S: System, T: Watch, I: Input, O: Write>(
     input: &mut I,
     out: &mut O,
 ) -> Result<Status, Fault>
-    ensures { PlansBy wishes.now.is_grouped (option_map string_bytes wishes.now.color) (option_map string_bytes wishes.now.course) (sources_of (S.known system.now) (I.is_reliable input.old)) inventory playbook
+    ensures { PlansBy wishes.now.is_grouped (option_map string_bytes wishes.now.color) (option_map string_bytes wishes.now.forecast) (sources_of (S.known system.now) (I.is_reliable input.old)) inventory playbook
         (I.remaining input.old) (I.remaining input.new) (O.contents out.old) (O.contents out.new) result }
 {
-    let course = &wishes.course;
+    let course = &wishes.forecast;
     if wishes.is_grouped {
         groups(
             system, alloc, watch, drawing, inventory, playbook, wishes, input, out,
@@ -93,7 +93,7 @@ pub fn plan_by<S: System, T: Watch, I: Input, O: Write>(
     input: &mut I,
     out: &mut O,
 ) -> Result<Status, Fault>
-    ensures { PlansDrawn (option_map string_bytes wishes.now.picture) wishes.now.is_grouped (option_map string_bytes wishes.now.color) (option_map string_bytes wishes.now.course) (sources_of (S.known system.now) (I.is_reliable input.old)) inventory playbook
+    ensures { PlansDrawn (option_map string_bytes wishes.now.picture) wishes.now.is_grouped (option_map string_bytes wishes.now.color) (option_map string_bytes wishes.now.forecast) (sources_of (S.known system.now) (I.is_reliable input.old)) inventory playbook
         (I.remaining input.old) (I.remaining input.new) (O.contents out.old) (O.contents out.new) result }
 {
     let mut drawing = Drawing::new(system, wishes);

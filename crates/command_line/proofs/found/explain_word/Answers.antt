@@ -7,5 +7,5 @@ use Rattle.command_line.proofs.found.explain_word.Goals as goal
 pub returns : goal.returns
 returns c =
     let sub = c.in_ok-subcommand_matches in
-    c.get_str.ensures ∙ first_value-rows (found_of sub.field-0.now) (codes "NUMBER|KIND")
-    ∙ sym (file_of (codes "explain") (codes "NUMBER|KIND") c.args.matches.now _ (sub.ensures.found.0 refl) sub.ensures.rows)
+    c.get_str.ensures ∙ first_value-rows (found_of sub.field-0.now) (codes "NUMBER|RULE")
+    ∙ sym (file_of (codes "explain") (codes "NUMBER|RULE") c.args.matches.now _ (sub.ensures.found.0 refl) sub.ensures.rows)
