@@ -197,8 +197,18 @@ def is_handed_out(call, crate, texts):
     return any(item.name == call and item.is_public and set(re.findall(r"\w+", item.owner)) & handed for item in items if item.kind == "fn")
 
 
-def compare_promises(count):
-    """PROVED has a row of promises for each command. What carries one is in the file beside it, a public function with a contract or a public type, and its crate hands it out."""
+def below(name, crates):
+    """The crate and all that it stands on."""
+    found = {name}
+    for each in crates[name]:
+        if each in crates:
+            found |= below(each, crates)
+    return found
+
+
+def compare_promises(count, crates):
+    """PROVED has a row of promises for each command. What carries one is in the file beside it, a public function with a contract or a public type, its crate hands it out, and `make` proves that crate."""
+    program = below("rollout", crates)
     rows = made.rows_of(section(tree.read("docs/PROVED.md"), "Promises by command"))
     of = {re.match(r"`(\w+)`", cells[0])[1] for cells in rows if cells[0].startswith("`")}
     for path in tree.found("crates/rollout/src/commands/*.rt"):
@@ -213,6 +223,7 @@ def compare_promises(count):
             count.row(items, f"docs/PROVED.md: {path} has nothing public of the name {name}")
             count.row(any(item.kind != "fn" or item.clauses for item in items), f"docs/PROVED.md: {name} of {path} has no contract")
             count.row(is_handed_out(name, path.split("/")[1], texts), f"docs/PROVED.md: {path.split('/')[1]} doesn't hand out {name}")
+            count.row(path.split("/")[1] in program, f"docs/PROVED.md: the program doesn't stand on {path.split('/')[1]}, so `make` doesn't prove {name}")
 
 
 def compare_starting_points(count):
@@ -446,7 +457,7 @@ def main():
     compare_edits(count)
     compare_crates(count, crates)
     compare_rules(count)
-    compare_promises(count)
+    compare_promises(count, crates)
     compare_starting_points(count)
     compare_crates_of_proved(count, crates)
     compare_public_names(count, named)

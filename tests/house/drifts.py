@@ -87,6 +87,11 @@ def a_promise_whose_call_has_no_contract(copy):
     copy.write(path, re.sub(r"^    ensures .*\n", "", copy.read(path), flags=re.M))
 
 
+def a_promise_that_make_does_not_prove(copy):
+    lines = copy.read("crates.txt").splitlines(keepends=True)
+    copy.write("crates.txt", "".join(line.replace(" run_laws", "") if line.startswith("outlook: ") else line for line in lines))
+
+
 def a_script_of_which_proved_says_nothing(copy):
     copy.change("docs/PROVED.md", "`tests/programs.sh`, `tests/children.sh`", "`tests/programs.sh`")
 

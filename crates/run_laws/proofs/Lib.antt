@@ -1,3 +1,10 @@
 pub mod RunLemmas
 pub mod EndLemmas
 pub mod CourseLemmas
+pub mod OnePlay
+pub mod Moments
+pub mod Splits
+pub mod Tellings
+pub mod Answers
+pub mod Texts
+pub mod Kept

@@ -1,2 +1,4 @@
 pub mod Laws
 pub mod Courses
+pub mod Told
+pub mod Answered

@@ -28,7 +28,7 @@ use Rattle.rehearsing.specs.declared.stage.Stage.{Stage}
 use Rattle.run_laws.specs.Laws.{EndAsNamed, GoesAsRehearsed}
 use Rattle.running.specs.Recaps.{are_several, headed}
 use Rattle.running.specs.RunTexts.{IsBrokenRecap, IsRecap}
-use Rattle.forecast_laws.specs.Told.{EachTold, IsTold}
+use Rattle.run_laws.specs.Told.{EachTold, IsTold}
 
 -- how a run ended at a boundary behind which these came: as it did where none came, and else not at all
 abbrev pub ended_at : End → List Boundary → Option End

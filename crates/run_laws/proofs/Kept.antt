@@ -29,12 +29,12 @@ use Rattle.run_laws.specs.Laws.{EndAsNamed}
 use Rattle.running.specs.Inputs.{AreInputs}
 use Rattle.running.specs.Recaps.{are_several}
 use Rattle.running.specs.RunTexts.{IsBrokenRecap, IsRecap}
-use Rattle.forecast_laws.specs.Laws.{AreSameBatches, BrokenRunsGoAsAnswered, GoesAsFar, GoesToBreak, IsKept, IsKeptToBreak, RunsGoAsAnswered}
-use Rattle.forecast_laws.proofs.Answers.{goes_as_answered}
-use Rattle.forecast_laws.proofs.Moments.{HoldsNext, each_told, one_more}
-use Rattle.forecast_laws.proofs.OnePlay.{rehearsal_of_both}
-use Rattle.forecast_laws.proofs.Splits.{opens_as_far}
-use Rattle.forecast_laws.proofs.Texts.{is_as_rehearsed}
+use Rattle.run_laws.specs.Answered.{AreSameBatches, BrokenRunsGoAsAnswered, GoesAsFar, GoesToBreak, IsKept, IsKeptToBreak, RunsGoAsAnswered}
+use Rattle.run_laws.proofs.Answers.{goes_as_answered}
+use Rattle.run_laws.proofs.Moments.{HoldsNext, each_told, one_more}
+use Rattle.run_laws.proofs.OnePlay.{rehearsal_of_both}
+use Rattle.run_laws.proofs.Splits.{opens_as_far}
+use Rattle.run_laws.proofs.Texts.{is_as_rehearsed}
 
 -- wherever a session on two texts stands, there stands a rehearsal of the play that a run of them begins with
 module _ (inventory playbook : List ℕ) (fleet : FleetView) (vars : List Vars) (plays : List Play) (statuses : List Status) (inputs : AreInputs inventory playbook fleet vars plays statuses)

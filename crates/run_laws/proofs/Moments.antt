@@ -12,7 +12,7 @@ use Rattle.rehearsing.specs.Stacks.{RehearsalView}
 use Rattle.rehearsing.specs.declared.fault.RehearseFault.{RehearseFault}
 use Rattle.rehearsing.specs.declared.fault.RehearseFault.TheVariants.{Refused, Memory, File, TooLarge, LongLine, Write}
 use Rattle.rehearsing.proofs.SessionLemmas.{session_of, session_on}
-use Rattle.forecast_laws.specs.Told.{EachAnswer, EachCut, EachEnded, EachHeard, EachOfFault, EachOver, EachTold, IsTold}
+use Rattle.run_laws.specs.Told.{EachAnswer, EachCut, EachEnded, EachHeard, EachOfFault, EachOver, EachTold, IsTold}
 
 -- a session, and one line more
 pub one_more : (tell : Telling) (start : HistoryView) (lines : List (List ℕ)) (text : List ℕ) (was : HistoryView) (line : List ℕ) (now : HistoryView) → Session tell start lines text was

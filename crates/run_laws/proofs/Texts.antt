@@ -28,9 +28,9 @@ use Rattle.rehearsing.specs.Plays.{IsRehearsalOf}
 use Rattle.rehearsing.specs.Stacks.{RehearsalView, boundaries_of, top}
 use Rattle.run_laws.specs.Laws.{EndAsNamed, EndsSo}
 use Rattle.running.specs.Recaps.{facts_text, headed, run_facts, runs_text}
-use Rattle.forecast_laws.specs.Laws.{BeginsAsRehearsed, IsAsRehearsed, boundaries_behind, ended_at}
-use Rattle.forecast_laws.proofs.Answers.{ends_so, goes_so, split}
-use Rattle.forecast_laws.proofs.Splits.{Splits, as_many, last_of_both}
+use Rattle.run_laws.specs.Answered.{BeginsAsRehearsed, IsAsRehearsed, boundaries_behind, ended_at}
+use Rattle.run_laws.proofs.Answers.{ends_so, goes_so, split}
+use Rattle.run_laws.proofs.Splits.{Splits, as_many, last_of_both}
 
 by_place_on : {X : Type 0} (piece : ℕ → X → List ℕ) (place : ℕ) (entries more : List X)
     → text_by_place piece place (entries ++ more) ≡ text_by_place piece place entries ++ text_by_place piece (place + length entries) more

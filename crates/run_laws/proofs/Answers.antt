@@ -36,9 +36,9 @@ use Rattle.rehearsing.specs.Tellings.{telling_of}
 use Rattle.rehearsing.specs.declared.stage.Stage.{Stage}
 use Rattle.run_laws.proofs.RunLemmas.{runs_go_as_rehearsed}
 use Rattle.run_laws.specs.Laws.{EndAsNamed, EndsSo, GoesAsRehearsed}
-use Rattle.forecast_laws.specs.Laws.{GoesAsAnswered, answer_of_run, ended_at, opened_between, run_stage}
-use Rattle.forecast_laws.proofs.Splits.{Splits, as_many, opens_more, same_ends, splits}
-use Rattle.forecast_laws.proofs.Tellings.{same_group, same_plan, same_show}
+use Rattle.run_laws.specs.Answered.{GoesAsAnswered, answer_of_run, ended_at, opened_between, run_stage}
+use Rattle.run_laws.proofs.Splits.{Splits, as_many, opens_more, same_ends, splits}
+use Rattle.run_laws.proofs.Tellings.{same_group, same_plan, same_show}
 
 -- a batch more
 batches_push : (below : Stage) (above : List Stage) (stage : Stage) → batches_to below (above ++ stage ∷ []) ≡ batches_to below above ++ next_batch (top_of below above).boundary.answer ∷ []

@@ -15,7 +15,7 @@ use Rattle.play_course.specs.declared.end.End.{End}
 use Rattle.play_course.specs.declared.end.End.TheVariants as ending
 use Rattle.rehearsing.specs.Stacks.{batches_to, top_of}
 use Rattle.rehearsing.specs.declared.stage.Stage.{Stage}
-use Rattle.forecast_laws.specs.Laws.{AreSameBatches}
+use Rattle.run_laws.specs.Answered.{AreSameBatches}
 
 -- the boundaries of a run that has as many as these stages at least: as many behind, then the one where the uppermost stage stands
 pub record Splits (first : Stage) (above : List Stage) (boundaries : List Boundary) : Type 0 where

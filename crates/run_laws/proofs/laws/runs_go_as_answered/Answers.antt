@@ -1,5 +1,5 @@
-use Rattle.forecast_laws.proofs.Kept.{broken_runs_go_as_answered, runs_go_as_answered}
-use Rattle.forecast_laws.proofs.laws.runs_go_as_answered.Goals as goal
+use Rattle.run_laws.proofs.Kept.{broken_runs_go_as_answered, runs_go_as_answered}
+use Rattle.run_laws.proofs.laws.runs_go_as_answered.Goals as goal
 
 pub returns : goal.returns
 returns g c = record {
