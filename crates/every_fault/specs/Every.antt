@@ -1,7 +1,7 @@
 -- Every fault of an inventory and a playbook, up to a bound of each part.
 use Rattle.std.specs.Prelude.{ℕ, Option, List}
 use Rattle.domains.specs.FleetViews.{FleetView}
-use Rattle.inventory_faults.specs.ToldFaults.{AreToldOf}
+use Rattle.inventory_read.specs.ToldFaults.{AreToldOf}
 use Rattle.every_fault.specs.Inventories.{IsFleetPart}
 use Rattle.every_fault.specs.Playbooks.{IsPlaybookPart, IsPatternPart}
 use Rattle.every_fault.specs.Unread.{is_silent}

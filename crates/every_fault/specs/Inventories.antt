@@ -2,6 +2,8 @@
 use Rattle.std.specs.Prelude.{◌≡◌, ℕ, Bool, true, false, Option, None, Some, List}
 use Rattle.group_tree.specs.Places.{Inventory}
 use Rattle.inventory_read.specs.Reads.{IsReadAs}
+use Rattle.inventory_read.specs.ToldFaults as inventories
+use Rattle.inventory_read.specs.declared.told.Told.{Told}
 use Rattle.domains.specs.FleetViews.{FleetView}
 use Rattle.domains.specs.Fleets.{IsFleetOf}
 use Rattle.fleet_faults.specs.ToldFaults.{AreToldOf}
@@ -24,3 +26,8 @@ pub record IsBuilt (text : List ℕ) (most : ℕ) (told : FleetTold) (fleet : Op
 abbrev pub IsFleetPart : List ℕ → ℕ → Bool → FleetTold → Option FleetView → Type 0
 IsFleetPart inventory most true told fleet = IsBuilt inventory most told fleet
 IsFleetPart inventory most false told fleet = (is_silent told.faults.items told.more ≡ true) × (fleet ≡ None)
+
+-- the faults of a text, and what keeps its inventory from being a fleet, and the fleet
+pub record IsInventoryPart (text : List ℕ) (most : ℕ) (told : Told) (fleet_told : FleetTold) (fleet : Option FleetView) : Type 0 where
+  pub of_inventory : inventories.AreToldOf text most told
+  pub of_fleet : IsFleetPart text most (is_silent told.faults.items told.more) fleet_told fleet

@@ -4,11 +4,10 @@ ghost use Rattle.std.specs.Option.{option_map};
 ghost use Rattle.every_fault.specs.Every.{IsEveryFault};
 ghost use Rattle.every_fault.specs.Playbooks.{IsPlaybookPart};
 
-use crate::fleet::fleet_part;
+use crate::fleet::inventory_part;
 use crate::patterns::pattern_part;
 use crate::silence::{is_silent, no_playbook_faults};
 use fleet_faults::FleetTold;
-use inventory_faults::inventory_faults;
 use playbook_faults::{PatternsTold, playbook_faults};
 use std::alloc::{AllocError, Global};
 
@@ -16,7 +15,7 @@ use std::alloc::{AllocError, Global};
 /// which a plan reports the first, and how many more there are. A fleet is looked at only if its inventory has no fault, and patterns only if neither file has any.
 #[derive(Debug, Drop)]
 pub struct EveryFault {
-    pub inventory: inventory_faults::Told,
+    pub inventory: inventory_read::Told,
     pub fleet: FleetTold,
     pub playbook: playbook_faults::Told,
     pub patterns: PatternsTold,
@@ -31,12 +30,7 @@ pub fn every_fault(
 ) -> Result<EveryFault, AllocError>
     ensures { IfOk result (IsEveryFault inventory.now (option_map (λ text. text.now) playbook.entry) most) }
 {
-    let of_inventory = match inventory_faults(alloc, inventory, most) {
-        Ok(told) => told,
-        Err(refused) => return Err(refused),
-    };
-    let is_inventory = is_silent(of_inventory.faults.as_slice(), of_inventory.more);
-    let (of_fleet, fleet) = match fleet_part(alloc, inventory, most, is_inventory) {
+    let (of_inventory, of_fleet, fleet) = match inventory_part(alloc, inventory, most) {
         Ok(part) => part,
         Err(refused) => return Err(refused),
     };

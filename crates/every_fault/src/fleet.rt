@@ -1,60 +1,49 @@
-//! What keeps an inventory from being a fleet, and the fleet.
-ghost use Rattle.std.specs.Prelude.{◌≡◌, IfOk, option_map};
+//! The faults of an inventory, what keeps it from being a fleet, and the fleet.
+ghost use Rattle.std.specs.Prelude.{◌≡◌, [], IfOk, option_map};
 ghost use Rattle.fleet_faults.specs.ToldFaults.{AreToldOf};
-ghost use Rattle.every_fault.specs.Inventories.{IsBuilt, IsFleetIf, IsFleetPart};
+ghost use Rattle.every_fault.specs.Inventories.{IsFleetIf, IsInventoryPart};
 
-use crate::silence::no_fleet_faults;
+use crate::silence::{no_fleet_faults, no_inventory_faults};
 use bumpalo::Bump;
 use domains::Fleet;
 use fleet_faults::{FleetTold, fleet_faults};
 use group_tree::Tree;
-use inventory_read::read_inventory;
+use inventory_read::{Told, inventory_or_faults};
 use std::alloc::{AllocError, Allocator, Global};
 
-/// What keeps the inventory from being a fleet, and the fleet if nothing does. Of a text with faults there is neither.
-pub(crate) fn fleet_part(
+/// The faults of an inventory, what keeps it from being a fleet, and the fleet if nothing does. Of a text with faults there is only the first.
+pub(crate) fn inventory_part(
     alloc: Global,
     inventory: &[u8],
     most: usize,
-    is_read: bool,
-) -> Result<(FleetTold, Option<Fleet>), AllocError>
-    ensures { IfOk result (λ part. IsFleetPart inventory.now most is_read part.0 (option_map (λ fleet. fleet) part.1)) }
-{
-    if is_read {
-        build(alloc, inventory, most)
-    } else {
-        Ok((no_fleet_faults(alloc), None))
-    }
-}
-
-fn build(
-    alloc: Global,
-    inventory: &[u8],
-    most: usize,
-) -> Result<(FleetTold, Option<Fleet>), AllocError>
-    ensures { IfOk result (λ part. IsBuilt inventory.now most part.0 (option_map (λ fleet. fleet) part.1)) }
+) -> Result<(Told, FleetTold, Option<Fleet>), AllocError>
+    ensures { IfOk result (λ part. IsInventoryPart inventory.now most part.0 part.1 (option_map (λ fleet. fleet) part.2)) }
 {
     let arena = Bump::new(alloc);
-    match read_inventory(&arena, alloc, inventory) {
-        Ok(tree) => tell_tree(alloc, &tree, most),
-        Err(_) => Err(AllocError),
+    match inventory_or_faults(&arena, alloc, inventory, most) {
+        Ok(Ok(tree)) => tree_part(alloc, &tree, most),
+        Ok(Err(told)) => Ok((told, no_fleet_faults(alloc), None)),
+        Err(refused) => Err(refused),
     }
 }
 
-fn tell_tree<A: Allocator>(
+/// Of an inventory without faults.
+fn tree_part<A: Allocator>(
     alloc: Global,
     tree: &Tree<A>,
     most: usize,
-) -> Result<(FleetTold, Option<Fleet>), AllocError>
-    ensures { IfOk result (λ part. AreToldOf tree.now most part.0 × IsFleetIf tree.now (option_map (λ fleet. fleet) part.1)) }
+) -> Result<(Told, FleetTold, Option<Fleet>), AllocError>
+    ensures { IfOk result (λ part. (part.0.faults.items ≡ []) × (part.0.more ≡ 0) × AreToldOf tree.now most part.1
+        × IsFleetIf tree.now (option_map (λ fleet. fleet) part.2)) }
 {
     let told = match fleet_faults(alloc, tree, most) {
         Ok(told) => told,
         Err(refused) => return Err(refused),
     };
+    let none = no_inventory_faults(alloc);
     match Fleet::build(alloc, tree) {
-        Ok(fleet) => Ok((told, Some(fleet))),
-        Err(fault) if fault.number().is_some() => Ok((told, None)),
+        Ok(fleet) => Ok((none, told, Some(fleet))),
+        Err(fault) if fault.number().is_some() => Ok((none, told, None)),
         Err(_) => Err(AllocError),
     }
 }

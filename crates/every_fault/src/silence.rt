@@ -1,5 +1,5 @@
 //! Parts of which nothing is told.
-ghost use Rattle.std.specs.Prelude.{◌≡◌, true};
+ghost use Rattle.std.specs.Prelude.{◌≡◌, [], true};
 ghost use Rattle.every_fault.specs.Unread.{is_silent};
 
 use fleet_faults::FleetTold;
@@ -11,6 +11,16 @@ pub(crate) fn is_silent<F>(faults: &[F], more: usize) -> bool
     ensures { result ≡ is_silent faults.now more }
 {
     faults.is_empty() && more == 0
+}
+
+pub(crate) fn no_inventory_faults(alloc: Global) -> inventory_read::Told
+    ensures faults { result.faults.items ≡ [] }
+    ensures more { result.more ≡ 0 }
+{
+    inventory_read::Told {
+        faults: Vec::new(alloc),
+        more: 0,
+    }
 }
 
 pub(crate) fn no_fleet_faults(alloc: Global) -> FleetTold

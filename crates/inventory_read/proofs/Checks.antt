@@ -7,13 +7,10 @@ use Rattle.std.proofs.lemmas.List.{map-append}
 use Rattle.serde_json.specs.Data.{Data}
 use Rattle.group_tree.specs.Names.{Name}
 use Rattle.inventory_read.specs.Documents.{Child, Listed, below_body, groups_from, standing, under, with_below}
-use Rattle.inventory_read.specs.Faults.{IsFirst}
 use Rattle.inventory_read.specs.Keys.{all_key}
 use Rattle.inventory_read.specs.Listings.{broken_from, broken_under, way_to}
 use Rattle.inventory_read.specs.Paths.{text_path, names_to}
 use Rattle.inventory_read.specs.Rules.{Breach, placed, broken_by_group, broken_in}
-use Rattle.inventory_read.specs.declared.fault.ReadFault.{ReadFault}
-use Rattle.inventory_read.proofs.Verdicts.{IsFirst-front}
 
 -- a list from which the last element was taken, which was put behind these
 pub pop_last : {X : Type 0} (old xs new : List X) (x : X) (count : ℕ) → old ≡ xs ++ x ∷ [] → count ≡ length old → new ≡ take (count - 1) old → new ≡ xs
@@ -76,35 +73,3 @@ pub broken_by_member : (way : List Name) (name : Name) (body : Data) (more : Lis
 broken_by_member way name body more =
     flat_map-append (broken_under way) (with_below name body (below_body body)) more
     ∙ ap (λ first. first ++ flat_map (broken_under way) more) (broken_with_below way name body)
-
--- a group that breaks nothing, by itself and below it
-pub breaks_nothing : (way : List Name) (name : Name) (body : Data) → map (placed (text_path way)) (broken_by_group name body) ≡ [] → flat_map (broken_under way) (below_body body) ≡ []
-    → broken_from way name body ≡ []
-breaks_nothing way name body own below = rw (own, below) refl
-
--- what a group below breaks is the first that the whole breaks, where nothing before it is broken
-pub first_below : (fault : ReadFault) (way : List Name) (own : List Breach) (name : Name) (body : Data) (groups more : List Listed) → own ≡ []
-    → flat_map (broken_under way) groups ≡ flat_map (broken_under way) (with_below name body (below_body body) ++ more)
-    → IsFirst fault (broken_from (way ++ name ∷ []) name body) → IsFirst fault (own ++ flat_map (broken_under way) groups)
-first_below fault way own name body groups more kept rest is =
-    let front = IsFirst-front fault (broken_from (way ++ name ∷ []) name body) (flat_map (broken_under way) more) is in
-    rw (kept, rest, broken_by_member way name body more) front
-
--- a group below that breaks nothing is passed
-pub pass_below : (way : List Name) (name : Name) (body : Data) (groups more : List Listed)
-    → flat_map (broken_under way) groups ≡ flat_map (broken_under way) (with_below name body (below_body body) ++ more) → broken_from (way ++ name ∷ []) name body ≡ []
-    → flat_map (broken_under way) groups ≡ flat_map (broken_under way) more
-pass_below way name body groups more rest kept =
-    rest ∙ broken_by_member way name body more ∙ ap (λ first. first ++ flat_map (broken_under way) more) kept
-
--- the same of the children of `all`
-pub first_child : (fault : ReadFault) (own : List Breach) (child : Child) (children more : List Child) → own ≡ [] → broken_by_children children ≡ broken_by_children (child ∷ more)
-    → IsFirst fault (broken_from (way_to child) child.name child.value) → IsFirst fault (own ++ broken_by_children children)
-first_child fault own child children more kept rest is =
-    let front = IsFirst-front fault (broken_from (way_to child) child.name child.value) (broken_by_children more) is in
-    rw (kept, rest, broken_by_first child more) front
-
-pub pass_child : (child : Child) (children more : List Child) → broken_by_children children ≡ broken_by_children (child ∷ more) → broken_from (way_to child) child.name child.value ≡ []
-    → broken_by_children children ≡ broken_by_children more
-pass_child child children more rest kept =
-    rest ∙ broken_by_first child more ∙ ap (λ first. first ++ broken_by_children more) kept

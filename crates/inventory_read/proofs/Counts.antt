@@ -1,5 +1,5 @@
 -- The reader's counts against the document's inventory.
-use Rattle.std.proofs.Common.{◌≡◌, ℕ, ◌+◌, ◌<◌, min, nat_le, Bool, true, false, ◌&&◌, Some, List, [], ◌∷◌, map, length, String, Global, sym, ap, ◌∙◌, refl, arith}
+use Rattle.std.proofs.Common.{◌≡◌, ℕ, ◌+◌, min, nat_le, Bool, ◌&&◌, List, [], ◌∷◌, map, length, String, Global, sym, ap, ◌∙◌, refl, arith}
 use Rattle.std.specs.List.{list_all, flat_map}
 use Rattle.std.proofs.Common.{length-append}
 use Rattle.std.proofs.lemmas.List.{length-map}
@@ -8,20 +8,15 @@ use Rattle.serde_json.specs.View.{members_view}
 use Rattle.serde_json.specs.declared.value.Value.{Value}
 use Rattle.group_tree.specs.Names.{Name}
 use Rattle.group_tree.specs.Bounds.{group_names, are_within_depth, depth_bound, groups_bound, rows_bound}
-use Rattle.text_parts.specs.Breaches.{first_of, joined, unless}
 use Rattle.text_parts.specs.Shapes.{entries}
 use Rattle.text_parts.proofs.ListLaws.{entries_counted}
 use Rattle.inventory_read.specs.Documents as documents
 use Rattle.inventory_read.specs.Listings.{Outline, outline_of, outline_at, listing_of, name_of, rows_at, most}
-use Rattle.inventory_read.specs.Rules.{Breach, TwicePlaced, TooDeep, TooMany}
 use Rattle.inventory_read.specs.Values.{host_of, hosts_in, place_of, rows_of}
 use Rattle.inventory_read.specs.declared.listing.Listed.{Listed}
 
 pub length-hosts : (list : List (String Global × Value)) → length (map host_of (entries (members_view list))) ≡ length list
 length-hosts list = length-map (entries (members_view list)) host_of ∙ sym (entries_counted list)
-
-pub length-name_of : (groups : List Listed) (i : ℕ) → i < length groups → i < length (map name_of groups)
-length-name_of groups i within = simp length-map within
 
 -- what holds of a list of groups, read off what counts of them
 names_of : List Outline → List Name
@@ -90,20 +85,3 @@ few listed = nat_le (length (map place_of listed)) groups_bound && nat_le (lengt
 pub few-are : (groups : List Listed) (listed : List documents.Listed) → map outline_of groups ≡ listing_of listed
     → (nat_le (length groups) groups_bound && nat_le (length (flat_map rows_at groups)) rows_bound) ≡ few listed
 few-are groups listed e = rw (groups-are groups listed e, rows-are groups listed e) refl
-
--- which rules of the tree are broken, by its three tests
-abbrev broken_by : ℕ → Bool → Bool → Bool → List Breach
-broken_by repeat distinct within few =
-    joined (unless distinct (TwicePlaced repeat) ∷ unless within TooDeep ∷ unless few TooMany ∷ [])
-
-pub first-twice : (group repeat : ℕ) (distinct within few : Bool) → distinct ≡ false → group ≡ repeat → first_of (broken_by repeat distinct within few) ≡ Some (TwicePlaced group)
-first-twice group repeat distinct within few e same = rw (e, same) refl
-
-pub first-deep : (repeat : ℕ) (distinct within few : Bool) → distinct ≡ true → within ≡ false → first_of (broken_by repeat distinct within few) ≡ Some TooDeep
-first-deep repeat distinct within few e f = rw (e, f) refl
-
-pub first-many : (repeat : ℕ) (distinct within few : Bool) → distinct ≡ true → within ≡ true → few ≡ false → first_of (broken_by repeat distinct within few) ≡ Some TooMany
-first-many repeat distinct within few e f g = rw (e, f, g) refl
-
-pub unbroken : (repeat : ℕ) (distinct within few : Bool) → distinct ≡ true → within ≡ true → few ≡ true → broken_by repeat distinct within few ≡ []
-unbroken repeat distinct within few e f g = rw (e, f, g) refl

@@ -1,12 +1,14 @@
 pub mod Depths
 pub mod Groups
 pub mod Merges
+pub mod Tellings
 pub mod Repeats
 pub mod Counts
 pub mod Builds
-pub mod Verdicts
 pub mod Checks
+pub mod Walks
 pub mod Unbroken
 pub mod MergeLaws
 pub mod Named
+pub mod Readings
 pub mod Steps

@@ -1,5 +1,5 @@
 -- A document that breaks no rule names its groups and hosts by the alphabet.
-use Rattle.std.proofs.Common.{◌≡◌, Bool, false, true, List, [], ◌∷◌, ◌++◌, map, refl, sym, ◌∙◌}
+use Rattle.std.proofs.Common.{◌≡◌, ℕ, Bool, false, true, List, [], ◌∷◌, ◌++◌, map, refl, sym, ◌∙◌}
 use Rattle.std.specs.Cmp.Derive.{both_true}
 use Rattle.std.specs.List.{flat_map, list_all}
 use Rattle.std.proofs.lemmas.Bool.{and_parts}
@@ -13,8 +13,7 @@ use Rattle.inventory_read.specs.Documents.{Listed, standing, under, with_below, 
 use Rattle.inventory_read.specs.Keys.{vars_key, children_key}
 use Rattle.inventory_read.specs.Paths.{text_path_of}
 use Rattle.inventory_read.specs.Named.{has_name, is_named, are_named}
-use Rattle.inventory_read.specs.Rules.{BadName, bad_top, bad_name, bad_shape, bad_part, bad_limit, broken_by_keys, broken_by_host, broken_by_hosts, broken_by_group, broken_in, broken}
-use Rattle.inventory_read.proofs.Verdicts.{none_placed}
+use Rattle.inventory_read.specs.Rules.{Breach, BadName, placed, bad_top, bad_name, bad_shape, bad_part, bad_limit, broken_by_keys, broken_by_host, broken_by_hosts, broken_by_group, broken_in, broken}
 
 hosts_named : (hosts : List Entry) → broken_by_hosts hosts ≡ [] → list_all has_name hosts ≡ true
 hosts_named [] e = refl
@@ -34,6 +33,10 @@ group_named group e =
     let limit = no_second (bad_part children_key body) _ children in
     let rows = no_first (broken_by_hosts (entries_in (part hosts_key body))) [] (no_second (bad_limit (part vars_key body)) _ limit) in
     both_true own (hosts_named (entries_in (part hosts_key body)) rows)
+
+none_placed : (path : List ℕ) (breaches : List Breach) → map (placed path) breaches ≡ [] → breaches ≡ []
+none_placed path [] e = refl
+none_placed path (first ∷ breaches) e = cc
 
 groups_named : (groups : List Listed) → flat_map broken_in groups ≡ [] → are_named groups ≡ true
 groups_named [] e = refl

@@ -1,20 +1,21 @@
--- A set of names that were met, one after another.
-use Rattle.std.proofs.Common.{◌≡◌, ℕ, zero, suc, arith, append_assoc, append-nil, ◌+◌, ◌<◌, Bool, true, false, not, ◌||◌, ◌&&◌, List, [], ◌∷◌, ◌++◌, take}
-use Rattle.std.proofs.Common.{drop, length, get_or, Bor, Ordering, Less, Equal, Greater, nat_cmp, sym, ap, subst, ◌∙◌, refl}
-use Rattle.std.specs.List.{list_any}
+-- Names that were met, one after another, and those that stood before.
+use Rattle.std.proofs.Common.{◌≡◌, ℕ, zero, suc, arith, ◌+◌, ◌<◌, ◌≤◌, Bool, true, false, not, ◌||◌, List, [], ◌∷◌, ◌++◌, take}
+use Rattle.std.proofs.Common.{length, get_or, Bor, Ordering, Less, Equal, Greater, nat_cmp, sym, ap, subst, ◌∙◌, refl}
+use Rattle.std.specs.List.{flat_map, list_any, range_with_len}
 use Rattle.std.specs.Ordering.{match_ordering, is_eq}
 use Rattle.std.specs.Cmp.Lexicographic.{slice_cmp}
 use Rattle.std.specs.BTreeSet.{insert_key}
+use Rattle.std.proofs.lemmas.Bool.{not-true}
 use Rattle.std.proofs.lemmas.Map.Text.{is_eq-slice_cmp}
-use Rattle.std.proofs.lemmas.List.{take_more, drop_more, take-append-drop}
+use Rattle.std.proofs.lemmas.List.{take_all, take_more}
 use Rattle.std.proofs.lemmas.List.Folds.{list_any-append}
 use lib.Pointwise.{bytes_decides}
-use Rattle.std.proofs.lemmas.Bool.{or_left, or_right}
-use Rattle.std.proofs.Math.Bool.{and-false, or_self_left}
+use Rattle.std.proofs.Math.Bool.{or_self_left}
 use Rattle.group_tree.specs.Names.{Name, same_name, is_among, are_distinct}
-use Rattle.group_tree.specs.Bounds.{IsFirstRepeat}
-use Rattle.inventory_read.specs.Rules.{count_before_repeat, first_repeat}
-use Rattle.group_tree.proofs.Preorder.{same_name-self}
+use Rattle.group_tree.proofs.Repeats.{are_distinct-more}
+use Rattle.text_parts.proofs.BreachLaws.{kept as test_kept, no_first, no_second}
+use Rattle.inventory_read.specs.Rules.{Breach, TwicePlaced, stood_before, repeated_at, repeats}
+use Rattle.inventory_read.proofs.Tellings.{flat_map-range_more}
 
 abbrev Text : Type 0
 Text = Bor (List ℕ)
@@ -68,67 +69,31 @@ has-more name keys more key names i within is added kept =
     ∙ sym (list_any-append (same_name name) (take i names) (get_or names i [] ∷ []))
     ∙ ap (is_among name) (sym (take_more names i [] within))
 
-there : (added here : Bool) → added ≡ not here → added ≡ false → here ≡ true
-there added true e f = refl
-there added false e f = cc
+-- a name is added where it did not stand before
+pub is_added : (keys : List Text) (key : Text) (names : List Name) (i : ℕ) (added : Bool) → key.now ≡ get_or names i [] → ((name : Name) → has name keys ≡ is_among name (take i names))
+    → added ≡ not (list_any (λ own. is_eq (slice_cmp nat_cmp key.now own.now)) keys) → added ≡ not (stood_before names i)
+is_added keys key names i added is kept answer =
+    answer ∙ ap not (has-is key.now keys ∙ kept key.now ∙ ap (λ name. is_among name (take i names)) is)
 
-not_there : (added here : Bool) → added ≡ not here → added ≡ true → here ≡ false
-not_there added false e f = refl
-not_there added true e f = cc
+-- the groups before an index, and those whose names stood before
+abbrev pub repeats_to : List Name → ℕ → List Breach
+repeats_to names index = flat_map (repeated_at names) (range_with_len 0 index)
 
-module _ (keys : List Text) (key : Text) (names : List Name) (i : ℕ) (added : Bool) (is : key.now ≡ get_or names i [])
-    (kept : (name : Name) → has name keys ≡ is_among name (take i names))
-    (answer : added ≡ not (list_any (λ own. is_eq (slice_cmp nat_cmp key.now own.now)) keys)) where
-  same : list_any (λ own. is_eq (slice_cmp nat_cmp key.now own.now)) keys ≡ is_among (get_or names i []) (take i names)
-  same = has-is key.now keys ∙ kept key.now ∙ ap (λ name. is_among name (take i names)) is
+-- after one index more
+pub repeats_more : (names : List Name) (index : ℕ) → repeats_to names (index + 1) ≡ repeats_to names index ++ repeated_at names index
+repeats_more names index = flat_map-range_more (repeated_at names) index
 
-  -- a name that the set had stood before, and one that it had not did not
-  pub stood_before : added ≡ false → is_among (get_or names i []) (take i names) ≡ true
-  stood_before old = sym same ∙ there added _ answer old
+unrepeated-to : (names : List Name) (index : ℕ) → index ≤ length names → repeats_to names index ≡ [] → are_distinct (take index names) ≡ true
+unrepeated-to names zero within none = refl
+unrepeated-to names (suc index) within none =
+    let more : index + 1 ≡ suc index = omega arith in
+    let parts : repeats_to names index ++ repeated_at names index ≡ [] = sym (repeats_more names index) ∙ ap (repeats_to names) more ∙ none in
+    let new : stood_before names index ≡ false =
+    not-true _ (test_kept (not (stood_before names index)) (TwicePlaced (index + 1)) (no_second (repeats_to names index) _ parts)) in
+    let before = unrepeated-to names index (omega arith) (no_first (repeats_to names index) _ parts) in
+    subst (λ n. are_distinct (take n names) ≡ true) more (are_distinct-more names index (omega arith) before new)
 
-  pub is_new : added ≡ true → is_among (get_or names i []) (take i names) ≡ false
-  is_new new = sym same ∙ not_there added _ answer new
-
-twice_at : (here : Bool) (first : Name) (names : List Name) (name : Name) (more : List Name) → same_name name first ≡ here
-    → (here || is_among name names) ≡ true → (is_among name names ≡ true → are_distinct (names ++ name ∷ more) ≡ false)
-    → (not (is_among first (names ++ name ∷ more)) && are_distinct (names ++ name ∷ more)) ≡ false
-twice_at true first names name more is e later =
-    let met : is_among first (names ++ name ∷ more) ≡ true =
-    list_any-append (same_name first) names (name ∷ more)
-    ∙ or_right (is_among first names) _ (or_left _ _ (subst (λ n. same_name first n ≡ true) (sym ((bytes_decides name first).0 is)) (same_name-self first))) in
-    rw met refl
-twice_at false first names name more is e later = rw (later e) (and-false (not (is_among first (names ++ name ∷ more))))
-
--- a name that stands twice
-twice : (names : List Name) (name : Name) (more : List Name) → is_among name names ≡ true → are_distinct (names ++ name ∷ more) ≡ false
-twice [] name more e = cc
-twice (first ∷ names) name more e = twice_at (same_name name first) first names name more refl e (twice names name more)
-
--- names with a first repeat are not distinct
-pub not_distinct : (names : List Name) (number : ℕ) → IsFirstRepeat names number → are_distinct names ≡ false
-not_distinct names number at =
-    let parts : names ≡ take at.index names ++ get_or names at.index [] ∷ drop (at.index + 1) names =
-    sym (take-append-drop at.index names) ∙ ap (λ rest. take at.index names ++ rest) (drop_more names at.index [] at.within) in
-    ap are_distinct parts ∙ twice (take at.index names) (get_or names at.index []) (drop (at.index + 1) names) at.repeated
-
-new_if : (here : Bool) (met : List Name) (name : Name) (more : List Name) → is_among name met ≡ here → are_distinct (met ++ name ∷ more) ≡ true → here ≡ false
-new_if false met name more e distinct = refl
-new_if true met name more e distinct = sym distinct ∙ twice met name more e
-
--- a count of names to the first that was met
-counted : (met names : List Name) (i : ℕ) → i < length names → are_distinct (met ++ take i names) ≡ true
-    → is_among (get_or names i []) (met ++ take i names) ≡ true → count_before_repeat met names ≡ i
-counted met [] i within distinct again = absurd (omega arith)
-counted met (name ∷ names) zero within distinct again =
-    let here : is_among name met ≡ true = ap (is_among name) (sym (append-nil met)) ∙ again in rw here refl
-counted met (name ∷ names) (suc i) within distinct again =
-    let new : is_among name met ≡ false = new_if _ met name (take i names) refl distinct in
-    let whole : (met ++ name ∷ []) ++ take i names ≡ met ++ name ∷ take i names = append_assoc met (name ∷ []) (take i names) in
-    let rest : count_before_repeat (met ++ name ∷ []) names ≡ i =
-    counted (met ++ name ∷ []) names i (omega arith) (ap are_distinct whole ∙ distinct) (ap (is_among (get_or names i [])) whole ∙ again) in
-    rw (new, rest) (omega arith)
-
-pub first_repeat-is : (names : List Name) (number : ℕ) → IsFirstRepeat names number → number ≡ first_repeat names
-first_repeat-is names number at =
-    let before : count_before_repeat [] names ≡ at.index = counted [] names at.index at.within at.first at.repeated in
-    omega (arith, at.counted, before)
+-- names of which none stood before are distinct
+pub unrepeated-distinct : (names : List Name) → repeats names ≡ [] → are_distinct names ≡ true
+unrepeated-distinct names none =
+    sym (ap are_distinct (take_all (length names) names (omega arith))) ∙ unrepeated-to names (length names) (omega arith) none

@@ -6,15 +6,16 @@ use Rattle.group_tree.specs.Names.{are_distinct}
 use Rattle.group_tree.specs.Places.{Inventory}
 use Rattle.group_tree.specs.Bounds.{depth_bound, groups_bound, rows_bound, group_names, are_within_depth}
 use Rattle.text_parts.proofs.BreachLaws.{kept, no_first, no_second}
-use Rattle.inventory_read.specs.Rules.{TwicePlaced, TooDeep, TooMany, first_repeat, twice_placed, too_deep, too_many, broken_by_tree, broken}
+use Rattle.inventory_read.specs.Rules.{TooDeep, TooMany, twice_placed, too_deep, too_many, broken_by_tree, broken}
 use Rattle.inventory_read.specs.Values.{inventory_of}
+use Rattle.inventory_read.proofs.Repeats.{unrepeated-distinct}
 
 pub unbroken-tree : (document : Data) → broken document ≡ [] → broken_by_tree (inventory_of document) ≡ []
 unbroken-tree document e = no_first (broken_by_tree (inventory_of document)) [] (no_second _ _ (no_second _ _ e))
 
 module _ (inventory : Inventory) (e : broken_by_tree inventory ≡ []) where
   pub keeps-distinct : are_distinct (group_names inventory.places) ≡ true
-  keeps-distinct = kept (are_distinct (group_names inventory.places)) (TwicePlaced (first_repeat (group_names inventory.places))) (no_first (twice_placed inventory) _ e)
+  keeps-distinct = unrepeated-distinct (group_names inventory.places) (no_first (twice_placed inventory) _ e)
 
   pub keeps-depth : are_within_depth depth_bound inventory.places ≡ true
   keeps-depth =

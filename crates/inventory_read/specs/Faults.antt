@@ -1,7 +1,6 @@
 -- Which rule a fault names.
-use Rattle.std.specs.Prelude.{◌≡◌, ℕ, Option, Some, None, Result, [], List, MatchResult, MatchOption, ⊤}
+use Rattle.std.specs.Prelude.{ℕ, Option, Some, None, []}
 use Rattle.std.specs.String.{string_bytes}
-use Rattle.text_parts.specs.Breaches.{first_of}
 use Rattle.inventory_read.specs.Paths.{down_path, host_path, limit_path, part_path}
 use Rattle.inventory_read.specs.Rules as rules
 use Rattle.inventory_read.specs.Rules.{Breach}
@@ -10,8 +9,9 @@ use Rattle.inventory_read.specs.declared.flaw.Flaw.TheVariants as flaw
 use Rattle.inventory_read.specs.declared.fault.ReadFault.{ReadFault}
 use Rattle.inventory_read.specs.declared.fault.ReadFault.TheVariants as fault
 
--- which rule a group's flaw breaks, with its path from the group's body on
+-- which rule a flaw breaks, with its path from the group's body on
 abbrev pub breach_of_flaw : Flaw → Breach
+breach_of_flaw flaw.NotJson = rules.NotJson
 breach_of_flaw (flaw.BadName name) = rules.BadName name.now
 breach_of_flaw flaw.BadBody = rules.BadShape []
 breach_of_flaw (flaw.BadPart key) = rules.BadShape (part_path key.now)
@@ -19,11 +19,9 @@ breach_of_flaw (flaw.BadHost host) = rules.BadShape (host_path host.now)
 breach_of_flaw (flaw.UnknownKey key) = rules.UnknownKey (part_path key.now)
 breach_of_flaw flaw.BadLimit = rules.BadLimit limit_path
 breach_of_flaw (flaw.BadDown host) = rules.BadDown (down_path host.now)
-
--- no rule is broken, or the flaw names the first that is
-abbrev pub IsVerdict : {T : Type 0} → Result T Flaw → List Breach → Type 0
-IsVerdict result broken =
-    MatchResult result (λ _. broken ≡ []) (λ found. first_of broken ≡ Some (breach_of_flaw found))
+breach_of_flaw (flaw.TwicePlaced group) = rules.TwicePlaced group
+breach_of_flaw flaw.TooDeep = rules.TooDeep
+breach_of_flaw flaw.TooMany = rules.TooMany
 
 -- want of memory breaks no rule
 abbrev pub breach_of : ReadFault → Option Breach
@@ -50,10 +48,3 @@ number_of (fault.TwicePlaced group) = Some 102
 number_of fault.TooDeep = Some 103
 number_of fault.TooMany = Some 104
 number_of fault.Memory = None
-
--- the fault names the first of these, or want of memory
-abbrev pub IsFirst : ReadFault → List Breach → Type 0
-IsFirst found broken = MatchOption (breach_of found) ⊤ (λ breach. first_of broken ≡ Some breach)
-
-abbrev pub IsRefusal : {T : Type 0} → Result T ReadFault → List Breach → Type 0
-IsRefusal result broken = MatchResult result (λ _. broken ≡ []) (λ found. IsFirst found broken)

@@ -4,8 +4,10 @@ pub mod Named
 pub mod Values
 pub mod Paths
 pub mod Rules
+pub mod Telling
 pub mod Listings
 pub mod Faults
 pub mod Reads
+pub mod ToldFaults
 pub mod Worked
 pub mod Laws

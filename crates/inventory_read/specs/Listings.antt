@@ -1,5 +1,6 @@
 -- The reader's list of groups, against the document's, and what they break, by the names on the way to them.
 use Rattle.std.specs.Prelude.{ℕ, ◌+◌, ◌-◌, ◌^◌, ◌++◌, min, if◌then◌else◌, List, [], ◌∷◌, map, length}
+use Rattle.std.specs.Borrow.{Bor}
 use Rattle.std.specs.List.{flat_map}
 use Rattle.serde_json.specs.Data.{Data}
 use Rattle.serde_json.specs.View.{view}
@@ -9,6 +10,7 @@ use Rattle.inventory_read.specs.Documents as documents
 use Rattle.inventory_read.specs.Keys.{all_key}
 use Rattle.inventory_read.specs.Paths.{text_path, names_to}
 use Rattle.inventory_read.specs.Rules.{Breach, placed, broken_by_group}
+use Rattle.inventory_read.specs.Telling.{Telling, with_breaches}
 use Rattle.inventory_read.specs.Values.{hosts_in}
 use Rattle.inventory_read.specs.declared.listing.Child.{Child}
 use Rattle.inventory_read.specs.declared.listing.Listed.{Listed}
@@ -56,3 +58,11 @@ broken_under above group = map (placed (text_path (above ++ names_to group))) (b
 abbrev pub broken_from : List Name → Name → Data → List Breach
 broken_from way name body =
     map (placed (text_path way)) (broken_by_group name body) ++ flat_map (broken_under way) (documents.below_body body)
+
+-- names as the reader lends them
+abbrev pub texts : List (Bor (List ℕ)) → List Name
+texts names = map (λ (name : Bor (List ℕ)). name.now) names
+
+-- after what the group breaks to which these names lead
+abbrev pub with_placed : Telling Breach → List (Bor (List ℕ)) → List Breach → Telling Breach
+with_placed telling names breaches = with_breaches telling (map (placed (text_path (texts names))) breaches)

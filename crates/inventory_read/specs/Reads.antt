@@ -1,10 +1,10 @@
 -- What reading a text promises.
-use Rattle.std.specs.Prelude.{◌≡◌, ℕ, Some, List, [], IsUtf8, ⊤, MatchOption}
+use Rattle.std.specs.Prelude.{◌≡◌, ℕ, ◌⊎◌, Some, List, [], ◌∷◌, IsUtf8, ⊤, MatchOption}
 use Rattle.serde_json.specs.Data.{Data}
 use Rattle.serde_json.specs.Read.{read}
 use Rattle.group_tree.specs.Places.{Inventory}
 use Rattle.text_parts.specs.Breaches.{first_of}
-use Rattle.text_parts.specs.Texts.{BreaksFirst}
+use Rattle.text_parts.specs.Texts.{BreaksFirst, IsNoJson}
 use Rattle.inventory_read.specs.Faults.{breach_of}
 use Rattle.inventory_read.specs.Rules.{Breach, NotJson, broken}
 use Rattle.inventory_read.specs.Values.{inventory_of}
@@ -25,3 +25,8 @@ IsFirstOf document breach = first_of (broken document) ≡ Some breach
 -- the fault names the first rule that the text breaks, or want of memory
 abbrev pub IsTrueOf : List ℕ → ReadFault → Type 0
 IsTrueOf text fault = MatchOption (breach_of fault) ⊤ (BreaksFirst NotJson IsFirstOf text)
+
+-- what a text breaks: that it is JSON, and that alone, or all that its document breaks
+abbrev pub AreAllOf : List ℕ → List Breach → Type 0
+AreAllOf text breaches =
+    ((breaches ≡ NotJson ∷ []) × IsNoJson text) ⊎ ((document : Data) × IsUtf8 text × (read text ≡ Some document) × (breaches ≡ broken document))

@@ -1,9 +1,9 @@
 -- The rules of the format, and which of them a document breaks.
-use Rattle.std.specs.Prelude.{ℕ, ◌+◌, Bool, true, false, ◌&&◌, ◌||◌, Option, Some, None, List, [], ◌∷◌, ◌++◌, map, length, nat_le, is_some, if◌then◌else◌}
-use Rattle.std.specs.List.{flat_map}
+use Rattle.std.specs.Prelude.{ℕ, ◌+◌, Bool, true, not, ◌&&◌, ◌||◌, Option, Some, None, List, [], ◌∷◌, ◌++◌, map, take, length, nat_le, is_some, slice_index_or}
+use Rattle.std.specs.List.{flat_map, range_with_len}
 use Rattle.serde_json.specs.Data.{Data}
 use Rattle.serde_json.specs.Find.{get}
-use Rattle.group_tree.specs.Names.{Name, is_name, is_among, are_distinct}
+use Rattle.group_tree.specs.Names.{Name, is_name, is_among}
 use Rattle.group_tree.specs.Places.{Inventory}
 use Rattle.group_tree.specs.Bounds.{depth_bound, groups_bound, rows_bound, group_names, are_within_depth}
 use Rattle.text_parts.specs.Breaches.{unless, joined}
@@ -100,20 +100,20 @@ broken_by_group name body =
 abbrev pub broken_in : Listed → List Breach
 broken_in group = map (placed (text_path_of group)) (broken_by_group group.name group.body)
 
--- how many names stand before the first that was met before it
-abbrev pub count_before_repeat : List Name → List Name → ℕ
-count_before_repeat met [] = 0
-count_before_repeat met (name ∷ names) =
-    if is_among name met then 0 else count_before_repeat (met ++ name ∷ []) names + 1
+-- the name at this index stands before it too
+abbrev pub stood_before : List Name → ℕ → Bool
+stood_before names index = is_among (slice_index_or names index []) (take index names)
 
--- the number, counted from 1, of the first name that stood before
-abbrev pub first_repeat : List Name → ℕ
-first_repeat names = count_before_repeat [] names + 1
+-- the group at this index, by its number counted from 1, has a name that stands before it too
+abbrev pub repeated_at : List Name → ℕ → List Breach
+repeated_at names index = unless (not (stood_before names index)) (TwicePlaced (index + 1))
 
--- 102: two groups have one name
+-- 102: each group whose name stood before
+abbrev pub repeats : List Name → List Breach
+repeats names = flat_map (repeated_at names) (range_with_len 0 (length names))
+
 abbrev pub twice_placed : Inventory → List Breach
-twice_placed inventory =
-    unless (are_distinct (group_names inventory.places)) (TwicePlaced (first_repeat (group_names inventory.places)))
+twice_placed inventory = repeats (group_names inventory.places)
 
 -- 103: a group is too deep
 abbrev pub too_deep : Inventory → List Breach
@@ -128,8 +128,8 @@ abbrev pub broken_by_tree : Inventory → List Breach
 broken_by_tree inventory =
     joined (twice_placed inventory ∷ too_deep inventory ∷ too_many inventory ∷ [])
 
--- all rules that the document breaks, in the order in which they are told: of the top value, of each group in preorder,
--- of the groups together
+-- all rules that the document breaks, each as often as it does, in the order in which they are reported: of the top value, of each group in
+-- preorder, of the groups together
 abbrev pub broken : Data → List Breach
 broken document =
     joined (bad_top document ∷ flat_map broken_in (groups_of document) ∷ broken_by_tree (inventory_of document) ∷ [])

@@ -1,17 +1,17 @@
 //! The rules that a document's groups keep together.
-ghost use Rattle.std.specs.Prelude.{◌≡◌, List, map, min, nat_le, ◌&&◌, length, IfOk, IsTrue, MatchOption};
+ghost use Rattle.std.specs.Prelude.{◌≡◌, List, map, min, nat_le, ◌&&◌, length, OnOk};
 ghost use Rattle.std.specs.List.{list_all, flat_map};
 ghost use Rattle.serde_json.specs.View.{view};
-ghost use Rattle.group_tree.specs.Names.{are_distinct};
-ghost use Rattle.group_tree.specs.Bounds.{IsFirstRepeat, depth_bound, groups_bound, rows_bound};
+ghost use Rattle.group_tree.specs.Bounds.{depth_bound, groups_bound, rows_bound};
 ghost use Rattle.inventory_read.specs.Documents as documents;
-ghost use Rattle.inventory_read.specs.Faults.{IsRefusal};
 ghost use Rattle.inventory_read.specs.Listings.{outline_of, listing_of, name_of, rows_at, most};
-ghost use Rattle.inventory_read.specs.Rules.{broken_by_tree};
+ghost use Rattle.inventory_read.specs.Rules.{broken_by_tree, repeats};
+ghost use Rattle.inventory_read.specs.Telling.{with_breaches};
 ghost use Rattle.inventory_read.specs.Values as values;
 
+use crate::collector::FaultCollector;
 use crate::entries::entries_at;
-use crate::fault::ReadFault;
+use crate::flaw::Flaw;
 use crate::keys::HOSTS;
 use crate::listing::Listed;
 use group_tree::{DEPTH_BOUND, GROUPS_BOUND, ROWS_BOUND};
@@ -19,19 +19,20 @@ use serde_json::Value;
 use std::alloc::{AllocError, Global};
 use std::collections::BTreeSet;
 
-/// The number, counted from 1, of the first group whose name stood before. `Tree::new` finds it without memory, and
-/// so in a time that grows with the square of the number of groups.
-fn first_repeat(scratch: Global, groups: &[Listed<'_>]) -> Result<Option<usize>, AllocError>
-    ensures { IfOk result (λ found. MatchOption found (IsTrue (are_distinct (map name_of groups.now)))
-        (IsFirstRepeat (map name_of groups.now))) }
+/// Adds each group whose name stood before, by its number, counted from 1.
+fn check_repeats(
+    scratch: Global,
+    faults: &mut FaultCollector,
+    groups: &[Listed<'_>],
+) -> Result<(), AllocError>
+    ensures { OnOk result (faults.new ≡ with_breaches faults.old (repeats (map name_of groups.now))) }
 {
     let mut names = BTreeSet::new(scratch);
     for index in 0..groups.len() {
-        if !names.insert(groups[index].name)? {
-            return Ok(Some(index + 1));
-        }
+        let is_new = names.insert(groups[index].name)?;
+        faults.check(is_new, &[], Flaw::TwicePlaced(index + 1))?;
     }
-    Ok(None)
+    Ok(())
 }
 
 fn are_within_depth(groups: &[Listed<'_>]) -> bool
@@ -65,19 +66,16 @@ fn are_few(groups: &[Listed<'_>]) -> bool
     groups.len() <= GROUPS_BOUND && count_rows(groups) <= ROWS_BOUND
 }
 
-/// The first rule that the groups break together: a name twice, the depth, the number of groups or of rows.
-pub(crate) fn check_tree(scratch: Global, groups: &[Listed<'_>]) -> Result<(), ReadFault>
+/// Adds the names that stand twice, the depth, and the number of groups or of rows.
+pub(crate) fn check_tree(
+    scratch: Global,
+    faults: &mut FaultCollector,
+    groups: &[Listed<'_>],
+) -> Result<(), AllocError>
     ensures { (listed : List documents.Listed) → map outline_of groups.now ≡ listing_of listed
-        → IsRefusal result (broken_by_tree (values.inventory_from listed)) }
+        → OnOk result (faults.new ≡ with_breaches faults.old (broken_by_tree (values.inventory_from listed))) }
 {
-    if let Some(group) = first_repeat(scratch, groups)? {
-        return Err(ReadFault::TwicePlaced { group });
-    }
-    if !are_within_depth(groups) {
-        return Err(ReadFault::TooDeep);
-    }
-    if !are_few(groups) {
-        return Err(ReadFault::TooMany);
-    }
-    Ok(())
+    check_repeats(scratch, faults, groups)?;
+    faults.check(are_within_depth(groups), &[], Flaw::TooDeep)?;
+    faults.check(are_few(groups), &[], Flaw::TooMany)
 }

@@ -1,10 +1,12 @@
-//! What is wrong with a group, as the group itself shows it.
+//! What is wrong with a document.
 
-/// The first rule that a group's own text breaks; a name, a key or a host says where below the group.
+/// A rule that a document breaks. A name, a key or a host says where below the body of the group that breaks it.
 #[derive(Clone, Copy, Debug)]
 pub(crate) enum Flaw<'a> {
+    NotJson,
     /// The group's own name, or a host's.
     BadName(&'a str),
+    /// The group's body, or the top value.
     BadBody,
     /// Under this key of the body.
     BadPart(&'a str),
@@ -12,4 +14,8 @@ pub(crate) enum Flaw<'a> {
     UnknownKey(&'a str),
     BadLimit,
     BadDown(&'a str),
+    /// The group with this number, counted from 1, has a name that stood before.
+    TwicePlaced(usize),
+    TooDeep,
+    TooMany,
 }

@@ -1,9 +1,10 @@
-//! Reads an inventory from the bytes of a JSON text.
+//! Reads an inventory from the bytes of a JSON text, or finds its faults.
 #![tactic(auto)]
 
 mod bounds;
 mod build;
 mod checking;
+mod collector;
 mod entries;
 mod fault;
 mod flaw;
@@ -14,6 +15,8 @@ mod listing;
 mod path;
 mod read;
 mod rules;
+mod shapes;
+mod told;
 mod variables;
 mod worked;
 
@@ -21,4 +24,5 @@ pub use fault::ReadFault;
 pub use laws::{
     merged_lists_are_in_name_order, merged_lists_keep_every_entry, own_entries_come_first,
 };
-pub use read::read_inventory;
+pub use read::{inventory_or_faults, read_inventory};
+pub use told::Told;

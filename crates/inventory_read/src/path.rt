@@ -1,9 +1,10 @@
-//! Where in the text a group's flaw stands.
-ghost use Rattle.std.specs.Prelude.{◌≡◌, ◌++◌, IfOk, OnOk, Some, map};
+//! Where in the text a flaw stands.
+ghost use Rattle.std.specs.Prelude.{◌≡◌, ◌++◌, IfOk, OnOk, Some};
 ghost use Rattle.std.specs.String.{string_bytes};
 ghost use Rattle.inventory_read.specs.Faults.{breach_of, breach_of_flaw};
+ghost use Rattle.inventory_read.specs.Listings.{texts};
 ghost use Rattle.inventory_read.specs.Paths.{keys_text, text_path};
-ghost use Rattle.inventory_read.specs.Rules.{placed};
+ghost use Rattle.inventory_read.specs.Rules as rules;
 
 use crate::fault::ReadFault;
 use crate::flaw::Flaw;
@@ -12,7 +13,7 @@ use std::alloc::{AllocError, Global};
 
 /// Goes on with the keys, each after `/`.
 fn push_keys(path: &mut String, keys: &[&str]) -> Result<(), AllocError>
-    ensures { OnOk result (string_bytes path.new ≡ string_bytes path.old ++ keys_text (map (λ key. key.now) keys.now)) }
+    ensures { OnOk result (string_bytes path.new ≡ string_bytes path.old ++ keys_text (texts keys.now)) }
 {
     for key in keys {
         path.push_str("/")?;
@@ -23,11 +24,20 @@ fn push_keys(path: &mut String, keys: &[&str]) -> Result<(), AllocError>
 
 /// The path of the group to which these names lead from an entry of the top value, and from there these keys.
 fn path_to(scratch: Global, names: &[&str], keys: &[&str]) -> Result<String, AllocError>
-    ensures { IfOk result (λ path. string_bytes path ≡ text_path (map (λ name. name.now) names.now) ++ keys_text (map (λ key. key.now) keys.now)) }
+    ensures { IfOk result (λ path. string_bytes path ≡ text_path (texts names.now) ++ keys_text (texts keys.now)) }
 {
     let mut path = names.join(scratch, "/children/")?;
     push_keys(&mut path, keys)?;
     Ok(path)
+}
+
+/// The fault of a value that has not the shape that the format asks for.
+fn bad_shape(scratch: Global, names: &[&str], keys: &[&str]) -> Result<ReadFault, AllocError>
+    ensures { IfOk result (λ fault. breach_of fault ≡ Some (rules.BadShape (text_path (texts names.now) ++ keys_text (texts keys.now)))) }
+{
+    Ok(ReadFault::BadShape {
+        at: path_to(scratch, names, keys)?,
+    })
 }
 
 /// The fault that reports the flaw of the group to which these names lead.
@@ -36,21 +46,16 @@ pub(crate) fn fault_at(
     names: &[&str],
     flaw: Flaw<'_>,
 ) -> Result<ReadFault, AllocError>
-    ensures { IfOk result (λ fault. breach_of fault ≡ Some (placed (text_path (map (λ name. name.now) names.now)) (breach_of_flaw flaw.entry))) }
+    ensures { IfOk result (λ fault. breach_of fault ≡ Some (rules.placed (text_path (texts names.now)) (breach_of_flaw flaw.entry))) }
 {
     match flaw {
+        Flaw::NotJson => Ok(ReadFault::NotJson),
         Flaw::BadName(name) => Ok(ReadFault::BadName {
             name: String::from_str(scratch, name)?,
         }),
-        Flaw::BadBody => Ok(ReadFault::BadShape {
-            at: path_to(scratch, names, &[])?,
-        }),
-        Flaw::BadPart(key) => Ok(ReadFault::BadShape {
-            at: path_to(scratch, names, &[key])?,
-        }),
-        Flaw::BadHost(host) => Ok(ReadFault::BadShape {
-            at: path_to(scratch, names, &[HOSTS, host])?,
-        }),
+        Flaw::BadBody => bad_shape(scratch, names, &[]),
+        Flaw::BadPart(key) => bad_shape(scratch, names, &[key]),
+        Flaw::BadHost(host) => bad_shape(scratch, names, &[HOSTS, host]),
         Flaw::UnknownKey(key) => Ok(ReadFault::UnknownKey {
             at: path_to(scratch, names, &[key])?,
         }),
@@ -60,5 +65,8 @@ pub(crate) fn fault_at(
         Flaw::BadDown(host) => Ok(ReadFault::BadDown {
             at: path_to(scratch, names, &[HOSTS, host, DOWN])?,
         }),
+        Flaw::TwicePlaced(group) => Ok(ReadFault::TwicePlaced { group }),
+        Flaw::TooDeep => Ok(ReadFault::TooDeep),
+        Flaw::TooMany => Ok(ReadFault::TooMany),
     }
 }

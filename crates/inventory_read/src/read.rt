@@ -1,49 +1,57 @@
-//! From the bytes of a text to the tree.
-ghost use Rattle.std.specs.Prelude.{◌≡◌, ◌⊎◌, ◌++◌, [], Some, None, map, IfOk, IfErr, IsUtf8};
+//! From the bytes of a text to the tree, or to its faults.
+ghost use Rattle.std.specs.Prelude.{◌≡◌, ◌∷◌, [], List, Some, map, IfOk, IfErr, OnOk, IsUtf8, MatchOption, MatchResult};
 ghost use Rattle.std.specs.List.{flat_map};
 ghost use Rattle.serde_json.specs.Data.{null};
 ghost use Rattle.serde_json.specs.Read.{read};
 ghost use Rattle.serde_json.specs.View.{view};
 ghost use Rattle.text_parts.specs.Texts.{IsNoJson};
 ghost use Rattle.inventory_read.specs.Documents as documents;
-ghost use Rattle.inventory_read.specs.Faults.{IsRefusal, IsFirst, breach_of};
 ghost use Rattle.inventory_read.specs.Keys.{all_key};
 ghost use Rattle.inventory_read.specs.Listings.{child_of, outline_of, listing_of};
 ghost use Rattle.inventory_read.specs.Reads.{IsReadAs, IsTrueOf};
 ghost use Rattle.inventory_read.specs.Rules as rules;
+ghost use Rattle.inventory_read.specs.Telling.{with_breaches};
+ghost use Rattle.inventory_read.specs.ToldFaults.{AreTold, AreFaultsOf, is_empty};
 ghost use Rattle.inventory_read.specs.Values as values;
 
 use crate::bounds::check_tree;
 use crate::build::build_all;
 use crate::checking::check_groups;
+use crate::collector::FaultCollector;
 use crate::fault::ReadFault;
+use crate::flaw::Flaw;
 use crate::keys::ALL;
 use crate::listing::{Child, Listed, children_of_all, list_groups};
+use crate::told::Told;
 use group_tree::Tree;
 use serde_json::Value;
-use std::alloc::{Allocator, Global};
+use std::alloc::{AllocError, Allocator, Global};
 
-fn parse(scratch: Global, text: &[u8]) -> Result<Value, ReadFault>
-    ensures ok { IfOk result (λ document. IsUtf8 text.now × (read text.now ≡ Some (view document))) }
-    ensures err { IfErr result (λ fault. (breach_of fault ≡ None) ⊎ ((breach_of fault ≡ Some rules.NotJson) × IsNoJson text.now)) }
+/// The document of a text; none where the text is no JSON.
+fn parse(scratch: Global, text: &[u8]) -> Result<Option<Value>, AllocError>
+    ensures { IfOk result (λ found. MatchOption found (IsNoJson text.now)
+        (λ document. IsUtf8 text.now × (read text.now ≡ Some (view document)))) }
 {
     match Value::from_slice(scratch, text) {
-        Ok(document) => Ok(document),
-        Err(error) if error.is_memory() => Err(ReadFault::Memory),
-        Err(_) => Err(ReadFault::NotJson),
+        Ok(document) => Ok(Some(document)),
+        Err(error) if error.is_memory() => Err(AllocError),
+        Err(_) => Ok(None),
     }
 }
 
-fn check_top(scratch: Global, document: &Value) -> Result<(), ReadFault>
-    ensures { IsRefusal result (rules.bad_top (view document.now)) }
+/// The faults of a text that is no JSON.
+fn no_json(scratch: Global, most: usize) -> Result<Told, AllocError>
+    ensures { IfOk result (λ told. AreTold most (rules.NotJson ∷ []) told) }
 {
-    if document.is_object() {
-        Ok(())
-    } else {
-        Err(ReadFault::BadShape {
-            at: String::new(scratch),
-        })
-    }
+    let mut faults = FaultCollector::new(scratch, most);
+    faults.add(&[], Flaw::NotJson)?;
+    Ok(faults.into_told())
+}
+
+fn check_top(faults: &mut FaultCollector, document: &Value) -> Result<(), AllocError>
+    ensures { OnOk result (faults.new ≡ with_breaches faults.old (rules.bad_top (view document.now))) }
+{
+    faults.check(document.is_object(), &[], Flaw::BadBody)
 }
 
 /// The body of `all`; where it is missing, nothing.
@@ -54,51 +62,78 @@ fn body_of_all<'a>(document: &'a Value, nothing: &'a Value) -> &'a Value
     document.get(ALL).unwrap_or(nothing)
 }
 
-/// The first rule that the document breaks, where this is the body of `all`, these are its children, and the list
-/// has `all` and each group below it.
+/// The faults of the document, where this is the body of `all`, these are its children, and the list has `all` and each
+/// group below it.
 fn check(
     scratch: Global,
     document: &Value,
     all: &Value,
     children: &[Child<'_>],
     groups: &[Listed<'_>],
-) -> Result<(), ReadFault>
+    most: usize,
+) -> Result<Told, AllocError>
     requires all { documents.with_below all_key (view all.now) (flat_map documents.groups_from (map child_of children.now)) ≡ documents.groups_of (view document.now) }
     requires listed { map outline_of groups.now ≡ listing_of (documents.groups_of (view document.now)) }
-    ensures { IsRefusal result (rules.broken (view document.now)) }
+    ensures { IfOk result (λ told. AreTold most (rules.broken (view document.now)) told) }
 {
-    check_top(scratch, document)?;
-    check_groups(scratch, all, children)?;
-    check_tree(scratch, groups)
+    let mut faults = FaultCollector::new(scratch, most);
+    check_top(&mut faults, document)?;
+    check_groups(scratch, &mut faults, all, children)?;
+    check_tree(scratch, &mut faults, groups)?;
+    Ok(faults.into_told())
 }
 
-/// The tree that a document says.
-fn tree_of<A: Allocator + Clone>(
+/// The tree that a document says, or its faults.
+fn read_document<A: Allocator + Clone>(
     alloc: A,
     scratch: Global,
     document: &Value,
-) -> Result<Tree<A>, ReadFault>
-    ensures ok { IfOk result (λ tree. (rules.broken (view document.now) ≡ []) × (tree ≡ values.inventory_of (view document.now))) }
-    ensures err { IfErr result (λ fault. IsFirst fault (rules.broken (view document.now))) }
+    most: usize,
+) -> Result<Result<Tree<A>, Told>, AllocError>
+    ensures { IfOk result (λ reading. MatchResult reading
+        (λ tree. (rules.broken (view document.now) ≡ []) × (tree ≡ values.inventory_of (view document.now)))
+        (λ told. AreTold most (rules.broken (view document.now)) told × (is_empty told ≡ false))) }
 {
     let nothing = Value::Null;
     let all = body_of_all(document, &nothing);
     let children = children_of_all(scratch, document, all)?;
     let groups = list_groups(scratch, all, children.as_slice())?;
-    check(
+    let told = check(
         scratch,
         document,
         all,
         children.as_slice(),
         groups.as_slice(),
+        most,
     )?;
+    if !told.is_empty() {
+        return Ok(Err(told));
+    }
     let root = build_all(alloc, scratch, all, children.as_slice())?;
-    Ok(Tree::within_bounds(root))
+    Ok(Ok(Tree::within_bounds(root)))
 }
 
-/// Reads an inventory into a tree under `alloc`; what is needed on the way is taken from `scratch` and given back.
-/// A text that breaks no rule is refused for want of memory alone. Of several faults the first is named: those of the
-/// groups in preorder, then a name that stands twice, the depth, and the numbers of groups and rows.
+/// Reads an inventory into a tree under `alloc`, or finds its faults: at most `most` of them, and how many more there are.
+/// What is needed on the way is taken from `scratch` and given back. Faults come in this order: those of the groups in
+/// preorder, each group whose name stood before, the depth, and the numbers of groups and rows. A text that is no JSON has
+/// that fault alone, and a value of a wrong shape none below it. Fails only if an allocation fails.
+pub fn inventory_or_faults<A: Allocator + Clone>(
+    alloc: A,
+    scratch: Global,
+    text: &[u8],
+    most: usize,
+) -> Result<Result<Tree<A>, Told>, AllocError>
+    ensures { IfOk result (λ reading. MatchResult reading (λ tree. IsReadAs text.now tree) (λ told. AreFaultsOf text.now most told)) }
+{
+    let found = parse(scratch, text)?;
+    match found {
+        Some(document) => read_document(alloc, scratch, &document, most),
+        None => Ok(Err(no_json(scratch, most)?)),
+    }
+}
+
+/// Reads an inventory into a tree under `alloc`, or finds its first fault. A text that breaks no rule is refused for want
+/// of memory alone.
 pub fn read_inventory<A: Allocator + Clone>(
     alloc: A,
     scratch: Global,
@@ -107,6 +142,9 @@ pub fn read_inventory<A: Allocator + Clone>(
     ensures ok { IfOk result (IsReadAs text.now) }
     ensures err { IfErr result (IsTrueOf text.now) }
 {
-    let document = parse(scratch, text)?;
-    tree_of(alloc, scratch, &document)
+    let reading = inventory_or_faults(alloc, scratch, text, 1)?;
+    match reading {
+        Ok(tree) => Ok(tree),
+        Err(mut told) => Err(told.faults.swap_remove(0)),
+    }
 }

@@ -1,141 +1,81 @@
-//! The rules that each group of a document keeps by itself.
-ghost use Rattle.std.specs.Prelude.{◌≡◌, ◌∷◌, [], false, true, IsTrue, IfSome, unwrap_or, option_map};
-ghost use Rattle.serde_json.specs.Data.{null};
-ghost use Rattle.serde_json.specs.Find.{get};
-ghost use Rattle.serde_json.specs.View.{view, members_view};
-ghost use Rattle.group_tree.specs.Names.{is_among};
+//! The rules that each group of a document keeps by itself. The names lead to the group.
+ghost use Rattle.std.specs.Prelude.{◌≡◌, OnOk};
+ghost use Rattle.serde_json.specs.View.{view};
 ghost use Rattle.text_parts.specs.Keys.{hosts_key};
 ghost use Rattle.text_parts.specs.Shapes.{entries_in};
 ghost use Rattle.inventory_read.specs.Documents.{part};
-ghost use Rattle.inventory_read.specs.Faults.{IsVerdict};
-ghost use Rattle.inventory_read.specs.Keys.{body_keys, vars_key};
-ghost use Rattle.inventory_read.specs.Paths.{host_path};
+ghost use Rattle.inventory_read.specs.Listings.{with_placed};
 ghost use Rattle.inventory_read.specs.Rules as rules;
 
+use crate::collector::FaultCollector;
 use crate::entries::entries_at;
 use crate::flaw::Flaw;
-use crate::keys::{CHILDREN, DOWN, HOSTS, MAX_DOWN, VARS};
-use crate::limits::limit_of;
+use crate::keys::{CHILDREN, HOSTS, VARS};
+use crate::shapes::{
+    has_limit_or_none, has_shape, has_shaped_part, has_truth_or_none, is_body_key,
+};
 use group_tree::is_name;
 use serde_json::{Map, Value};
+use std::alloc::AllocError;
 use text_parts::entries_of;
 
-fn check_name<'a>(name: &'a str) -> Result<(), Flaw<'a>>
-    ensures { IsVerdict result (rules.bad_name name.now) }
-{
-    if is_name(name) {
-        Ok(())
-    } else {
-        Err(Flaw::BadName(name))
-    }
-}
-
-fn has_shape(value: &Value) -> bool
-    ensures { result ≡ rules.has_shape (view value.now) }
-{
-    value.is_null() || value.is_object()
-}
-
-fn check_body<'a>(body: &'a Value) -> Result<(), Flaw<'a>>
-    ensures { IsVerdict result (rules.bad_shape [] (view body.now)) }
-{
-    if has_shape(body) {
-        Ok(())
-    } else {
-        Err(Flaw::BadBody)
-    }
-}
-
-fn is_body_key(key: &str) -> bool
-    ensures { result ≡ is_among key.now body_keys }
-{
-    key == HOSTS || key == CHILDREN || key == VARS
-}
-
-fn check_keys<'a>(body: &'a Value) -> Result<(), Flaw<'a>>
-    ensures { IsVerdict result (rules.broken_by_keys (entries_in (view body.now))) }
+fn check_keys(faults: &mut FaultCollector, names: &[&str], body: &Value) -> Result<(), AllocError>
+    ensures { OnOk result (faults.new ≡ with_placed faults.old names.now (rules.broken_by_keys (entries_in (view body.now)))) }
 {
     let Some(object) = entries_of(body) else {
         return Ok(());
     };
     for (key, _value) in object {
-        if !is_body_key(key.as_str()) {
-            return Err(Flaw::UnknownKey(key.as_str()));
-        }
+        let key = key.as_str();
+        faults.check(is_body_key(key), names, Flaw::UnknownKey(key))?;
     }
     Ok(())
 }
 
-fn check_part<'a>(body: &'a Value, key: &'a str) -> Result<(), Flaw<'a>>
-    ensures { IsVerdict result (rules.bad_part key.now (view body.now)) }
+fn check_host(
+    faults: &mut FaultCollector,
+    names: &[&str],
+    host: &str,
+    variables: &Value,
+) -> Result<(), AllocError>
+    ensures { OnOk result (faults.new ≡ with_placed faults.old names.now (rules.broken_by_host (record { name = host.now; value = view variables.now }))) }
 {
-    match body.get(key) {
-        Some(value) if !has_shape(value) => Err(Flaw::BadPart(key)),
-        _ => Ok(()),
-    }
+    faults.check(is_name(host), names, Flaw::BadName(host))?;
+    faults.check(has_shape(variables), names, Flaw::BadHost(host))?;
+    faults.check(has_truth_or_none(variables), names, Flaw::BadDown(host))
 }
 
-fn check_limit<'a>(body: &'a Value) -> Result<(), Flaw<'a>>
-    ensures { IsVerdict result (rules.bad_limit (part vars_key (view body.now))) }
-{
-    let Some(vars) = body.get(VARS) else {
-        return Ok(());
-    };
-    match vars.get(MAX_DOWN) {
-        Some(value) if limit_of(value).is_none() => Err(Flaw::BadLimit),
-        _ => Ok(()),
-    }
-}
-
-fn check_host_shape<'a>(name: &'a str, variables: &'a Value) -> Result<(), Flaw<'a>>
-    ensures { IsVerdict result (rules.bad_shape (host_path name.now) (view variables.now)) }
-{
-    if has_shape(variables) {
-        Ok(())
-    } else {
-        Err(Flaw::BadHost(name))
-    }
-}
-
-fn check_down<'a>(name: &'a str, variables: &'a Value) -> Result<(), Flaw<'a>>
-    ensures { IsVerdict result (rules.bad_down name.now (view variables.now)) }
-{
-    match variables.get(DOWN) {
-        Some(value) if !value.is_boolean() => Err(Flaw::BadDown(name)),
-        _ => Ok(()),
-    }
-}
-
-fn check_host<'a>(name: &'a str, variables: &'a Value) -> Result<(), Flaw<'a>>
-    ensures { IsVerdict result (rules.broken_by_host (record { name = name.now; value = view variables.now })) }
-{
-    check_name(name)?;
-    check_host_shape(name, variables)?;
-    check_down(name, variables)
-}
-
-fn check_hosts<'a>(body: &'a Value) -> Result<(), Flaw<'a>>
-    ensures { IsVerdict result (rules.broken_by_hosts (entries_in (part hosts_key (view body.now)))) }
+fn check_hosts(faults: &mut FaultCollector, names: &[&str], body: &Value) -> Result<(), AllocError>
+    ensures { OnOk result (faults.new ≡ with_placed faults.old names.now (rules.broken_by_hosts (entries_in (part hosts_key (view body.now))))) }
 {
     let Some(hosts) = entries_at(body, HOSTS) else {
         return Ok(());
     };
-    for (name, variables) in hosts {
-        check_host(name.as_str(), variables)?;
+    for (host, variables) in hosts {
+        check_host(faults, names, host.as_str(), variables)?;
     }
     Ok(())
 }
 
-/// The first rule that a group breaks, apart from the groups below it.
-pub(crate) fn check_group<'a>(name: &'a str, body: &'a Value) -> Result<(), Flaw<'a>>
-    ensures { IsVerdict result (rules.broken_by_group name.now (view body.now)) }
+/// Adds all that the group breaks, apart from the groups below it.
+pub(crate) fn check_group(
+    faults: &mut FaultCollector,
+    names: &[&str],
+    name: &str,
+    body: &Value,
+) -> Result<(), AllocError>
+    ensures { OnOk result (faults.new ≡ with_placed faults.old names.now (rules.broken_by_group name.now (view body.now))) }
 {
-    check_name(name)?;
-    check_body(body)?;
-    check_keys(body)?;
-    check_part(body, VARS)?;
-    check_part(body, HOSTS)?;
-    check_part(body, CHILDREN)?;
-    check_limit(body)?;
-    check_hosts(body)
+    faults.check(is_name(name), names, Flaw::BadName(name))?;
+    faults.check(has_shape(body), names, Flaw::BadBody)?;
+    check_keys(faults, names, body)?;
+    faults.check(has_shaped_part(body, VARS), names, Flaw::BadPart(VARS))?;
+    faults.check(has_shaped_part(body, HOSTS), names, Flaw::BadPart(HOSTS))?;
+    faults.check(
+        has_shaped_part(body, CHILDREN),
+        names,
+        Flaw::BadPart(CHILDREN),
+    )?;
+    faults.check(has_limit_or_none(body), names, Flaw::BadLimit)?;
+    check_hosts(faults, names, body)
 }

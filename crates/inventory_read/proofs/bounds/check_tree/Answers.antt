@@ -1,47 +1,30 @@
-use Rattle.std.proofs.Common.{◌≡◌, true, map, sym, ap, ◌∙◌}
-use Rattle.group_tree.specs.Names.{are_distinct}
-use Rattle.group_tree.specs.Bounds.{IsFirstRepeat, group_names, are_within_depth, depth_bound}
-use Rattle.inventory_read.specs.Listings.{name_of}
-use Rattle.inventory_read.specs.Rules.{first_repeat}
+use Rattle.std.proofs.Common.{◌≡◌, List, map, sym, ap, ◌∙◌}
+use Rattle.std.proofs.lemmas.Result.{on_ok_weaker}
+use Rattle.group_tree.specs.Names.{Name}
+use Rattle.group_tree.specs.Bounds.{group_names, are_within_depth, depth_bound}
+use Rattle.text_parts.specs.Breaches.{unless}
+use Rattle.inventory_read.specs.Rules.{TooDeep, TooMany, repeats}
+use Rattle.inventory_read.specs.Telling.{with_breaches}
 use Rattle.inventory_read.specs.Values.{place_of}
-use Rattle.inventory_read.proofs.Counts.{few, names-are, depths-are, few-are, first-twice, first-deep, first-many, unbroken}
-use Rattle.inventory_read.proofs.Repeats.{not_distinct, first_repeat-is}
+use Rattle.inventory_read.proofs.Counts.{few, names-are, depths-are, few-are}
+use Rattle.inventory_read.proofs.Tellings.{after, with_none}
+use Rattle.inventory_read.proofs.Walks.{at_top}
 use Rattle.inventory_read.proofs.bounds.check_tree.Goals as goal
-
-pub returns-in-Some : goal.returns-in-Some
-returns-in-Some c = λ listed e.
-    let groups = c.args.groups.now in
-    let names = group_names (map place_of listed) in
-    let found : IsFirstRepeat (map name_of groups) c.in-Some.group = rw c.in-Some.is at c.in_ok-group.ensures in
-    first-twice c.in-Some.group (first_repeat names) (are_distinct names) (are_within_depth depth_bound (map place_of listed)) (few listed)
-    (sym (ap are_distinct (names-are groups listed e)) ∙ not_distinct (map name_of groups) c.in-Some.group found)
-    (first_repeat-is (map name_of groups) c.in-Some.group found ∙ ap first_repeat (names-are groups listed e))
-
-pub returns-then-not-are_within_depth : goal.returns-then-not-are_within_depth
-returns-then-not-are_within_depth c = λ listed e.
-    let groups = c.args.groups.now in
-    let names = group_names (map place_of listed) in
-    let distinct : are_distinct (map name_of groups) ≡ true = rw c.in_default.is at c.in_ok-group.ensures in
-    first-deep (first_repeat names) (are_distinct names) (are_within_depth depth_bound (map place_of listed)) (few listed)
-    (sym (ap are_distinct (names-are groups listed e)) ∙ distinct)
-    (sym (depths-are groups listed e) ∙ sym c.are_within_depth.ensures ∙ c.if-not-are_within_depth.true)
-
-pub returns-then-not-are_few : goal.returns-then-not-are_few
-returns-then-not-are_few c = λ listed e.
-    let groups = c.args.groups.now in
-    let names = group_names (map place_of listed) in
-    let distinct : are_distinct (map name_of groups) ≡ true = rw c.in_default.is at c.in_ok-group.ensures in
-    first-many (first_repeat names) (are_distinct names) (are_within_depth depth_bound (map place_of listed)) (few listed)
-    (sym (ap are_distinct (names-are groups listed e)) ∙ distinct)
-    (sym (depths-are groups listed e) ∙ sym c.are_within_depth.ensures ∙ c.if-not-are_within_depth.false)
-    (sym (few-are groups listed e) ∙ sym c.are_few.ensures ∙ c.if-not-are_few.true)
 
 pub returns : goal.returns
 returns c = λ listed e.
     let groups = c.args.groups.now in
-    let names = group_names (map place_of listed) in
-    let distinct : are_distinct (map name_of groups) ≡ true = rw c.in_default.is at c.in_ok-group.ensures in
-    unbroken (first_repeat names) (are_distinct names) (are_within_depth depth_bound (map place_of listed)) (few listed)
-    (sym (ap are_distinct (names-are groups listed e)) ∙ distinct)
-    (sym (depths-are groups listed e) ∙ sym c.are_within_depth.ensures ∙ c.if-not-are_within_depth.false)
-    (sym (few-are groups listed e) ∙ sym c.are_few.ensures ∙ c.if-not-are_few.false)
+    let names : List Name = group_names (map place_of listed) in
+    let shallow = are_within_depth depth_bound (map place_of listed) in
+    let first : c.check_repeats.new.faults ≡ with_breaches c.args.faults.now (repeats names) =
+    c.in_ok-check_repeats.ensures ∙ ap (λ (list : List Name). with_breaches c.args.faults.now (repeats list)) (names-are groups listed e) in
+    let second : c.check.new.self ≡ with_breaches c.check_repeats.new.faults (unless shallow TooDeep) =
+    c.in_ok-check.ensures
+    ∙ ap (with_breaches c.check_repeats.new.faults) (at_top c.are_within_depth.result shallow TooDeep (c.are_within_depth.ensures ∙ depths-are groups listed e)) in
+    on_ok_weaker c.check-2.result
+    (λ third.
+    after _ _ _ _ _ first
+    (after _ _ _ _ _ second
+    (after _ _ _ _ _ (third ∙ ap (with_breaches c.check.new.self) (at_top c.are_few.result (few listed) TooMany (c.are_few.ensures ∙ few-are groups listed e)))
+    (sym (with_none _)))))
+    c.check-2.ensures

@@ -1,17 +1,18 @@
--- The groups below that were checked break nothing, and the names lead to the group again.
-use Rattle.std.proofs.Common.{◌≡◌, ◌≤◌, map}
+-- What is left to check of the groups below, and that the names lead to the group again.
+use Rattle.std.proofs.Common.{◌≡◌, ◌≤◌}
 use Rattle.std.specs.List.{flat_map}
 use Rattle.serde_json.specs.Data.{depth, members_depth}
 use Rattle.serde_json.specs.View.{view, members_view}
 use Rattle.inventory_read.specs.Documents.{groups_among}
-use Rattle.inventory_read.specs.Listings.{broken_under}
+use Rattle.inventory_read.specs.Listings.{broken_under, texts}
+use Rattle.inventory_read.specs.Telling.{with_breaches}
 use Rattle.inventory_read.proofs.checking.+check_from.Given as goal
 
 abbrev pub invariant-loop-name : goal.invariant-loop-name
 invariant-loop-name l = record {
   back : l.names.items ≡ l.initial.names.items;
-  rest : flat_map (broken_under (map (λ name. name.now) l.initial.names.items)) (groups_among (members_view l.initial.name-iterator))
-      ≡ flat_map (broken_under (map (λ name. name.now) l.initial.names.items)) (groups_among (members_view l.name-iterator));
+  rest : with_breaches l.faults (flat_map (broken_under (texts l.initial.names.items)) (groups_among (members_view l.name-iterator)))
+      ≡ with_breaches l.initial.faults (flat_map (broken_under (texts l.initial.names.items)) (groups_among (members_view l.initial.name-iterator)));
   nested : members_depth (members_view l.name-iterator) ≤ members_depth (members_view l.initial.name-iterator);
 }
 

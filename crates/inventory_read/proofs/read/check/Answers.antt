@@ -1,23 +1,21 @@
-use Rattle.std.proofs.Common.{sym, ap, ◌∙◌, subst, List}
+use Rattle.std.proofs.Common.{◌≡◌, List, sym, ap, ◌∙◌}
 use Rattle.std.specs.List.{flat_map}
 use Rattle.serde_json.specs.View.{view}
 use Rattle.inventory_read.specs.Documents.{Listed, groups_of}
-use Rattle.inventory_read.specs.Faults.{IsFirst}
-use Rattle.inventory_read.specs.Rules.{broken, broken_in}
-use Rattle.inventory_read.proofs.Verdicts.{IsFirst-groups, IsRefusal-tree, IsRefusal-passed_on}
+use Rattle.inventory_read.specs.Rules.{Breach, bad_top, broken, broken_in}
+use Rattle.inventory_read.specs.Telling.{Telling, nothing_told, with_breaches}
+use Rattle.inventory_read.proofs.Readings.{are_told}
+use Rattle.inventory_read.proofs.Tellings.{after, with_none}
 use Rattle.inventory_read.proofs.read.check.Goals as goal
-
-pub returns-in_err-check_groups : goal.returns-in_err-check_groups
-returns-in_err-check_groups c =
-    let document = view c.args.document.now in
-    let fault = c.in_err-check_groups.field-0.0 in
-    let part : IsFirst fault (flat_map broken_in (groups_of document)) =
-    subst (λ (groups : List Listed). IsFirst fault (flat_map broken_in groups)) c.requires.all c.in_err-check_groups.ensures in
-    IsRefusal-passed_on c.from_residual-in_err-check_groups.result fault (broken document) c.from_residual-in_err-check_groups.ensures.1
-    (IsFirst-groups fault document c.in_ok-check_top.ensures part)
 
 pub returns : goal.returns
 returns c =
     let document = view c.args.document.now in
-    let groups = ap (flat_map broken_in) (sym c.requires.all) ∙ c.in_ok-check_groups.ensures in
-    IsRefusal-tree c.check_tree.result document c.in_ok-check_top.ensures groups (c.check_tree.ensures (groups_of document) c.requires.listed)
+    let top : c.check_top.new.faults ≡ with_breaches (nothing_told c.args.most) (bad_top document) =
+    c.in_ok-check_top.ensures ∙ ap (λ (t : Telling Breach). with_breaches t (bad_top document)) c.new-faults.ensures in
+    let groups : c.check_groups.new.faults ≡ with_breaches c.check_top.new.faults (flat_map broken_in (groups_of document)) =
+    c.in_ok-check_groups.ensures ∙ ap (λ (groups : List Listed). with_breaches c.check_top.new.faults (flat_map broken_in groups)) c.requires.all in
+    let tree = c.in_ok-check_tree.ensures (groups_of document) c.requires.listed in
+    let all : c.check_tree.new.faults ≡ with_breaches (nothing_told c.args.most) (broken document) =
+    after _ _ _ _ _ top (after _ _ _ _ _ groups (after _ _ _ _ _ tree (sym (with_none _)))) in
+    are_told c.args.most (broken document) c.check_tree.new.faults c.into_told.result all c.into_told.ensures.faults c.into_told.ensures.more

@@ -1,8 +1,0 @@
-use Rattle.std.proofs.Common.{◌≡◌, ◌++◌, map, take}
-use Rattle.std.specs.String.{string_bytes}
-use Rattle.inventory_read.specs.Paths.{keys_text}
-use Rattle.inventory_faults.proofs.path.push_keys.Given as goal
-
-abbrev pub invariant-loop-key : goal.invariant-loop-key
-invariant-loop-key l =
-    string_bytes l.path ≡ string_bytes l.initial.path ++ keys_text (map (λ key. key.now) (take l.key-index l.keys))

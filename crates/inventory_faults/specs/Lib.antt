@@ -1,6 +1,0 @@
-pub mod AllBroken
-pub mod Telling
-pub mod Flaws
-pub mod Listings
-pub mod ToldFaults
-pub mod Laws

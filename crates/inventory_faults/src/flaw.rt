@@ -1,9 +1,0 @@
-//! What is wrong with a value, apart from where it stands.
-
-#[derive(Clone, Copy, Debug)]
-pub(crate) enum Flaw {
-    BadShape,
-    UnknownKey,
-    BadLimit,
-    BadDown,
-}

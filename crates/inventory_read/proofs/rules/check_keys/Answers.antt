@@ -1,0 +1,31 @@
+use Rattle.std.proofs.Common.{◌≡◌, [], sym, ap, ◌∙◌, rules}
+use Rattle.std.specs.String.{string_bytes}
+use Rattle.serde_json.specs.View.{view, members_view}
+use Rattle.text_parts.specs.Shapes.{Entry, entries}
+use Rattle.inventory_read.specs.Listings.{texts, with_placed}
+use Rattle.inventory_read.specs.Paths.{text_path}
+use Rattle.inventory_read.specs.Rules.{placed, broken_by_key, broken_by_keys}
+use Rattle.inventory_read.proofs.Tellings.{all_told, pass_map, with_none}
+use Rattle.inventory_read.proofs.rules.check_keys.Goals as goal
+
+pub returns-in_default : goal.returns-in_default
+returns-in_default c =
+    sym (with_none c.args.faults.now)
+    ∙ ap (λ members. with_placed c.args.faults.now c.args.names.now (broken_by_keys (entries members))) (sym c.in_default.ensures.entries)
+
+pub loop-key-preserved : goal.loop-key-preserved
+loop-key-preserved c =
+    let l = c.loop-key in
+    let entry : Entry = record { name = string_bytes c.in-Some-2.key.now; value = view c.in-Some-2._value.now } in
+    let own : c.check.new.self ≡ with_placed l.faults c.args.names.now (broken_by_key entry) =
+    rw (c.is_body_key.ensures, c.as_str-key.ensures.value) at c.in_ok-check.ensures in
+    pass_map _ _ (placed (text_path (texts c.args.names.now))) (broken_by_key entry) (broken_by_keys (entries (members_view c.next.new.self))) _ own
+    (rw c.in-Some-2.ensures.steps at l.invariant)
+
+pub returns : goal.returns
+returns c =
+    let l = c.loop-key in
+    let left : l.key-iterator ≡ [] = c.in-None.ensures.steps.0 in
+    let start : c.into_iter-key-iterator.result ≡ c.in-Some.object.now.entries = search rules in
+    all_told l.faults _ (rw left at l.invariant)
+    ∙ ap (λ members. with_placed c.args.faults.now c.args.names.now (broken_by_keys (entries members))) (ap members_view start ∙ c.in-Some.ensures.entries)
