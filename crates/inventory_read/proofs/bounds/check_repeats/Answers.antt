@@ -26,6 +26,6 @@ loop-index-preserved c =
     let found : c.check.new.self ≡ with_breaches l.faults (repeated_at names l.index) =
     c.in_ok-check.ensures ∙ ap (with_breaches l.faults) (at_top added (not (stood_before names l.index)) (TwicePlaced (l.index + 1)) kept) in
     record {
-      kept = λ name. has-more name l.names.keys c.insert-is_new.new.self.keys item.name names l.index within is c.in_ok-is_new.ensures.keys (l.invariant.kept name);
+      kept = λ name. has-more name l.names.keys c.insert.new.self.keys item.name names l.index within is c.in_ok-is_new.ensures.keys (l.invariant.kept name);
       found = after _ _ _ (repeats_to names l.index) (repeated_at names l.index) l.invariant.found found ∙ ap (with_breaches c.args.faults.now) (sym (repeats_more names l.index));
     }
