@@ -13,7 +13,7 @@ use Rattle.text_parts.proofs.ListLaws.{entries_counted}
 use Rattle.inventory_read.specs.Documents as documents
 use Rattle.inventory_read.specs.Listings.{Outline, outline_of, outline_at, listing_of, name_of, rows_at, most}
 use Rattle.inventory_read.specs.Values.{host_of, hosts_in, place_of, rows_of}
-use Rattle.inventory_read.specs.declared.listing.Listed.{Listed}
+use Rattle.inventory_read.specs.declared.checking.Listed.{Listed}
 
 pub length-hosts : (list : List (String Global × Value)) → length (map host_of (entries (members_view list))) ≡ length list
 length-hosts list = length-map (entries (members_view list)) host_of ∙ sym (entries_counted list)

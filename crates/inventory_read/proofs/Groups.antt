@@ -14,8 +14,7 @@ use Rattle.inventory_read.specs.Keys.{all_key, children_key}
 use Rattle.inventory_read.specs.Documents as documents
 use Rattle.inventory_read.specs.Documents.{part, standing, under, with_below, below_body, below_members, groups_in, groups_among, groups_from, merged, own_children, groups_beside_all, groups_of}
 use Rattle.inventory_read.specs.Listings.{Outline, child_of, outline_of, outline_at, most}
-use Rattle.inventory_read.specs.declared.listing.Child.{Child}
-use Rattle.inventory_read.specs.declared.listing.Listed.{Listed}
+use Rattle.inventory_read.specs.declared.checking.Listed.{Listed}
 
 groups_in-is : (value : Data) → groups_in value ≡ groups_among (members_in value)
 groups_in-is null = refl
@@ -76,15 +75,13 @@ listed_with_below before after group depth members whole pushed fits deep is e =
     ∙ append_assoc (map outline_of before) (outline_of group ∷ []) _
     ∙ ap (λ rest. map outline_of before ++ rest) (cons_same own below)
 
--- a child of `all` and all below it, once they have been added
-pub listed_child : (before after : List Listed) (child : Child) (rest : List documents.Listed) (whole : List Outline)
-    → map outline_of after ≡ map outline_of before ++ map (outline_at 2) (with_below child.name.now (view child.body.now) (below_body (view child.body.now)))
-    → map outline_of before ++ map (outline_at 2) (groups_from (child_of child) ++ rest) ≡ whole → map outline_of after ++ map (outline_at 2) rest ≡ whole
-listed_child before after child rest whole listed e =
-    let own = with_below child.name.now (view child.body.now) (below_body (view child.body.now)) in
-    ap (λ first. first ++ map (outline_at 2) rest) (listed ∙ ap (λ added. map outline_of before ++ added) (sym (outline_at-standing 2 child.past_all own)))
-    ∙ append_assoc (map outline_of before) (map (outline_at 2) (groups_from (child_of child))) (map (outline_at 2) rest)
-    ∙ ap (λ last. map outline_of before ++ last) (sym (map-append (outline_at 2) (groups_from (child_of child)) rest))
+-- some groups and those after them, once they have been added
+pub listed_more : (before after : List Outline) (depth : ℕ) (own more : List documents.Listed) (whole : List Outline) → after ≡ before ++ map (outline_at depth) own
+    → before ++ map (outline_at depth) (own ++ more) ≡ whole → after ++ map (outline_at depth) more ≡ whole
+listed_more before after depth own more whole listed e =
+    ap (λ first. first ++ map (outline_at depth) more) listed
+    ∙ append_assoc before (map (outline_at depth) own) (map (outline_at depth) more)
+    ∙ ap (λ last. before ++ last) (sym (map-append (outline_at depth) own more))
     ∙ e
 
 -- `all` and all below it, once those below it have been listed

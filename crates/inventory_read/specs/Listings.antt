@@ -12,8 +12,8 @@ use Rattle.inventory_read.specs.Paths.{text_path, names_to}
 use Rattle.inventory_read.specs.Rules.{Breach, placed, broken_by_group}
 use Rattle.inventory_read.specs.Telling.{Telling, with_breaches}
 use Rattle.inventory_read.specs.Values.{hosts_in}
-use Rattle.inventory_read.specs.declared.listing.Child.{Child}
-use Rattle.inventory_read.specs.declared.listing.Listed.{Listed}
+use Rattle.inventory_read.specs.declared.children.Child.{Child}
+use Rattle.inventory_read.specs.declared.checking.Listed.{Listed}
 
 -- what an entry of the reader's says
 abbrev pub child_of : Child → documents.Child

@@ -9,11 +9,11 @@ ghost use Rattle.inventory_read.specs.Rules.{broken_by_tree, repeats};
 ghost use Rattle.inventory_read.specs.Telling.{with_breaches};
 ghost use Rattle.inventory_read.specs.Values as values;
 
+use crate::checking::Listed;
 use crate::collector::FaultCollector;
 use crate::entries::entries_at;
 use crate::flaw::Flaw;
 use crate::keys::HOSTS;
-use crate::listing::Listed;
 use group_tree::{DEPTH_BOUND, GROUPS_BOUND, ROWS_BOUND};
 use serde_json::Value;
 use std::alloc::{AllocError, Global};

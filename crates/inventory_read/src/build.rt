@@ -13,10 +13,10 @@ ghost use Rattle.inventory_read.specs.Listings.{child_of};
 ghost use Rattle.inventory_read.specs.Named.{are_named, hosts_are_named};
 ghost use Rattle.inventory_read.specs.Values as values;
 
+use crate::children::Child;
 use crate::entries::entries_at;
 use crate::keys::{ALL, CHILDREN, HOSTS, MAX_DOWN, VARS};
 use crate::limits::limit_of;
-use crate::listing::Child;
 use crate::variables::variables_of;
 use group_tree::{Group, Limit, Scalar};
 use serde_json::{Map, Value};

@@ -4,6 +4,7 @@
 mod bounds;
 mod build;
 mod checking;
+mod children;
 mod collector;
 mod entries;
 mod fault;
@@ -11,7 +12,6 @@ mod flaw;
 mod keys;
 mod laws;
 mod limits;
-mod listing;
 mod path;
 mod read;
 mod rules;

@@ -7,7 +7,7 @@ ghost use Rattle.serde_json.specs.View.{view};
 ghost use Rattle.text_parts.specs.Texts.{IsNoJson};
 ghost use Rattle.inventory_read.specs.Documents as documents;
 ghost use Rattle.inventory_read.specs.Keys.{all_key};
-ghost use Rattle.inventory_read.specs.Listings.{child_of, outline_of, listing_of};
+ghost use Rattle.inventory_read.specs.Listings.{child_of};
 ghost use Rattle.inventory_read.specs.Reads.{IsReadAs, IsTrueOf};
 ghost use Rattle.inventory_read.specs.Rules as rules;
 ghost use Rattle.inventory_read.specs.Telling.{with_breaches};
@@ -17,11 +17,11 @@ ghost use Rattle.inventory_read.specs.Values as values;
 use crate::bounds::check_tree;
 use crate::build::build_all;
 use crate::checking::check_groups;
+use crate::children::{Child, children_of_all};
 use crate::collector::FaultCollector;
 use crate::fault::ReadFault;
 use crate::flaw::Flaw;
 use crate::keys::ALL;
-use crate::listing::{Child, Listed, children_of_all, list_groups};
 use crate::told::Told;
 use group_tree::Tree;
 use serde_json::Value;
@@ -62,24 +62,21 @@ fn body_of_all<'a>(document: &'a Value, nothing: &'a Value) -> &'a Value
     document.get(ALL).unwrap_or(nothing)
 }
 
-/// The faults of the document, where this is the body of `all`, these are its children, and the list has `all` and each
-/// group below it.
+/// The faults of the document, where this is the body of `all`, and these are its children.
 fn check(
     scratch: Global,
     document: &Value,
     all: &Value,
     children: &[Child<'_>],
-    groups: &[Listed<'_>],
     most: usize,
 ) -> Result<Told, AllocError>
-    requires all { documents.with_below all_key (view all.now) (flat_map documents.groups_from (map child_of children.now)) ≡ documents.groups_of (view document.now) }
-    requires listed { map outline_of groups.now ≡ listing_of (documents.groups_of (view document.now)) }
+    requires { documents.with_below all_key (view all.now) (flat_map documents.groups_from (map child_of children.now)) ≡ documents.groups_of (view document.now) }
     ensures { IfOk result (λ told. AreTold most (rules.broken (view document.now)) told) }
 {
     let mut faults = FaultCollector::new(scratch, most);
     check_top(&mut faults, document)?;
-    check_groups(scratch, &mut faults, all, children)?;
-    check_tree(scratch, &mut faults, groups)?;
+    let groups = check_groups(scratch, &mut faults, all, children)?;
+    check_tree(scratch, &mut faults, groups.as_slice())?;
     Ok(faults.into_told())
 }
 
@@ -97,15 +94,7 @@ fn read_document<A: Allocator + Clone>(
     let nothing = Value::Null;
     let all = body_of_all(document, &nothing);
     let children = children_of_all(scratch, document, all)?;
-    let groups = list_groups(scratch, all, children.as_slice())?;
-    let told = check(
-        scratch,
-        document,
-        all,
-        children.as_slice(),
-        groups.as_slice(),
-        most,
-    )?;
+    let told = check(scratch, document, all, children.as_slice(), most)?;
     if !told.is_empty() {
         return Ok(Err(told));
     }
