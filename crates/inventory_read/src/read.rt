@@ -1,5 +1,5 @@
 //! From the bytes of a text to the tree, or to its faults.
-ghost use Rattle.std.specs.Prelude.{◌≡◌, ◌∷◌, [], List, Some, map, IfOk, IfErr, OnOk, IsUtf8, MatchOption, MatchResult};
+ghost use Rattle.std.specs.Prelude.{◌≡◌, ◌∷◌, [], List, Some, false, map, IfOk, IfErr, OnOk, IsUtf8, MatchOption, MatchResult};
 ghost use Rattle.std.specs.List.{flat_map};
 ghost use Rattle.serde_json.specs.Data.{null};
 ghost use Rattle.serde_json.specs.Read.{read};
