@@ -1,12 +1,11 @@
 //! What keeps an inventory from being a fleet, and the fleet.
 ghost use Rattle.std.specs.Prelude.{◌≡◌, IfOk, option_map};
-ghost use Rattle.fleet_faults.specs.ToldFaults.{AreToldOf};
+ghost use Rattle.domains.specs.Faults.{TellsFirst, all_faults};
 ghost use Rattle.every_fault.specs.Inventories.{IsBuilt, IsFleetIf, IsFleetPart};
 
 use crate::silence::no_fleet_faults;
 use bumpalo::Bump;
-use domains::Fleet;
-use fleet_faults::{FleetTold, fleet_faults};
+use domains::{Fleet, FleetTold};
 use group_tree::Tree;
 use inventory_read::read_inventory;
 use std::alloc::{AllocError, Allocator, Global};
@@ -46,15 +45,11 @@ fn tell_tree<A: Allocator>(
     tree: &Tree<A>,
     most: usize,
 ) -> Result<(FleetTold, Option<Fleet>), AllocError>
-    ensures { IfOk result (λ part. AreToldOf tree.now most part.0 × IsFleetIf tree.now (option_map (λ fleet. fleet) part.1)) }
+    ensures { IfOk result (λ part. TellsFirst most (all_faults tree.now) part.0 × IsFleetIf tree.now (option_map (λ fleet. fleet) part.1)) }
 {
-    let told = match fleet_faults(alloc, tree, most) {
-        Ok(told) => told,
-        Err(refused) => return Err(refused),
-    };
-    match Fleet::build(alloc, tree) {
-        Ok(fleet) => Ok((told, Some(fleet))),
-        Err(fault) if fault.number().is_some() => Ok((told, None)),
-        Err(_) => Err(AllocError),
+    match Fleet::build_or_tell(alloc, tree, most) {
+        Ok(Ok(fleet)) => Ok((no_fleet_faults(alloc), Some(fleet))),
+        Ok(Err(told)) => Ok((told, None)),
+        Err(refused) => Err(refused),
     }
 }

@@ -1,8 +1,8 @@
 //! Parts of which nothing is told.
-ghost use Rattle.std.specs.Prelude.{◌≡◌, true};
+ghost use Rattle.std.specs.Prelude.{◌≡◌, [], true};
 ghost use Rattle.every_fault.specs.Unread.{is_silent};
 
-use fleet_faults::FleetTold;
+use domains::FleetTold;
 use playbook_faults::{PatternsTold, Told};
 use std::alloc::Global;
 
@@ -14,7 +14,9 @@ pub(crate) fn is_silent<F>(faults: &[F], more: usize) -> bool
 }
 
 pub(crate) fn no_fleet_faults(alloc: Global) -> FleetTold
-    ensures { is_silent result.faults.items result.more ≡ true }
+    ensures silent { is_silent result.faults.items result.more ≡ true }
+    ensures faults { result.faults.items ≡ [] }
+    ensures more { result.more ≡ 0 }
 {
     FleetTold {
         faults: Vec::new(alloc),
