@@ -2,7 +2,7 @@
 use Rattle.std.proofs.Common.{◌≡◌, ℕ, zero, suc, ◌+◌, ◌*◌, ◌^◌, ◌<◌, ◌≤◌, Bool, true, false, ◌||◌, ◌&&◌, not, nat_eq, nat_lt, Option, None, Some, List, [], ◌∷◌, ◌++◌, take, get_or, length, map, refl, sym, ap, ◌∙◌, arith, inl, inr, ◌⊎◌}
 use Rattle.std.specs.List.{flat_map, range_with_len}
 use Rattle.std.proofs.Math.Nat.{mul-le-mul_left, zero-add}
-use Rattle.std.proofs.lemmas.Bool.{cases_lt, eq-eqb, eqb-true, false_from_ne_true, false≢true, lt-ltb, ltb-true, or_cases, or_right}
+use Rattle.std.proofs.lemmas.Bool.{cases_lt, eq-eqb, eqb-true, false_from_ne_true, false≢true, lt-ltb, ltb-true, not-true, or_cases, or_right}
 use Rattle.std.proofs.lemmas.List.{flat_map_more, length-map, map_more}
 use Rattle.std.proofs.lemmas.List.Folds.{list_any_at}
 use Rattle.std.proofs.lemmas.List.FromFn.{counting_more, get_or-range_with_len, length-range_with_len}
@@ -71,10 +71,6 @@ none_at f (x ∷ xs) none n e = by_case (or_cases (nat_eq n x) (has_number n xs)
     by_case (inl same) = ap f (eqb-true n x same) ∙ no_first (f x) (flat_map f xs) none
     by_case (inr later) = none_at f xs (no_second (f x) (flat_map f xs) none) n later
 
-unset : (b : Bool) → not b ≡ true → b ≡ false
-unset true e = sym e
-unset false e = refl
-
 -- a chain is nested where none of its groups cross
 nested_none : (ends chain : List ℕ) (host : ℕ) → IsNestedChain ends chain → crossings_among (ends_before ends) host chain ≡ []
 nested_none ends chain host nested =
@@ -88,7 +84,7 @@ nested_none ends chain host nested =
 none_nested : (ends chain : List ℕ) (host : ℕ) → crossings_among (ends_before ends) host chain ≡ [] → IsNestedChain ends chain
 none_nested ends chain host none f s e d =
     let crossing : ℕ → Crossing = λ second. record { host = host; first = f; second = second } in
-    unset (ends_before ends f s)
+    not-true (ends_before ends f s)
     (kept (not (ends_before ends f s)) (crossing s)
     (none_at (λ second. crossing_if (ends_before ends) (crossing second)) chain
     (none_at (crossings_with (ends_before ends) host chain) chain none f e) s d))
@@ -102,7 +98,7 @@ no_crossings ends chains nested =
 
 not_over : (group : ℕ) (limit : Option ℕ) (down : ℕ) → over_by group limit down ≡ [] → exceeds limit down ≡ false
 not_over group None down none = refl
-not_over group (Some limit) down none = unset (nat_lt limit down) (kept (not (nat_lt limit down)) _ none)
+not_over group (Some limit) down none = not-true (nat_lt limit down) (kept (not (nat_lt limit down)) _ none)
 
 no_findings : (crossings : List Crossing) (overs : List Finding) → findings crossings overs ≡ [] → (crossings ≡ []) × (overs ≡ [])
 no_findings [] overs none = (refl, none)

@@ -1,5 +1,6 @@
 -- Crossings that are seen one after another: each pair of groups is found once, and has a mark.
 use Rattle.std.proofs.Common.{◌≡◌, ℕ, ◌+◌, ◌*◌, ◌<◌, Bool, true, false, ◌||◌, ◌&&◌, not, nat_eq, cond, List, [], ◌∷◌, ◌++◌, get_or, map, filter, refl, sym, ap, ◌∙◌, subst, append-nil, inl, inr, ◌⊎◌, ◌≢◌}
+use Rattle.std.proofs.Math.Bool.{or-false}
 use Rattle.std.proofs.lemmas.Bool.{and_from, and_parts, eq-eqb, eqb-true, false_from_ne_true}
 use Rattle.std.proofs.lemmas.Bool.Decides.{eqb_tells}
 use Rattle.std.proofs.lemmas.Nat.{mul-add-lt, same_from_place}
@@ -50,14 +51,10 @@ named_last : (b : Bool) (x : Crossing) → map Nesting (unless b x) ≡ unless b
 named_last true x = refl
 named_last false x = refl
 
-or_false : (b : Bool) → (b || false) ≡ b
-or_false true = refl
-or_false false = refl
-
 pairs_more : (f s : ℕ) (xs : List Crossing) (x : Crossing) → has_pair f s (xs ++ x ∷ []) ≡ (has_pair f s xs || (nat_eq f x.first && nat_eq s x.second))
 pairs_more f s xs x =
     let test : Crossing → Bool = λ crossing. nat_eq f crossing.first && nat_eq s crossing.second in
-    list_any-append test xs (x ∷ []) ∙ ap (λ b. has_pair f s xs || b) (or_false (test x))
+    list_any-append test xs (x ∷ []) ∙ ap (λ b. has_pair f s xs || b) (or-false (test x))
 
 -- one crossing more, whose pair is found unless it has a mark
 pub seen_more : (n : ℕ) (cross : ℕ → ℕ → Bool) (seen : List Crossing) (x : Crossing) (found more : List Finding) (marks set : List Bool) (known : Bool)
