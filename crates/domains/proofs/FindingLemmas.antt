@@ -1,5 +1,5 @@
 -- What is found by numbers is what the inventory says by names.
-use Rattle.std.proofs.Common.{◌≡◌, ℕ, zero, suc, ◌+◌, ◌*◌, ◌^◌, ◌<◌, ◌≤◌, Bool, true, false, ◌||◌, ◌&&◌, not, nat_eq, nat_lt, Option, None, Some, List, [], ◌∷◌, ◌++◌, take, get_or, length, map, refl, sym, ap, ◌∙◌, arith, inl, inr, ◌⊎◌}
+use Rattle.std.proofs.Common.{◌≡◌, ℕ, zero, suc, ◌+◌, ◌*◌, ◌^◌, ◌<◌, ◌≤◌, Bool, true, false, ◌||◌, ◌&&◌, not, nat_eq, nat_lt, cond, Option, None, Some, List, [], ◌∷◌, ◌++◌, take, get_or, length, map, refl, sym, ap, ◌∙◌, arith, inl, inr, ◌⊎◌}
 use Rattle.std.specs.List.{flat_map, range_with_len}
 use Rattle.std.proofs.Math.Nat.{mul-le-mul_left, zero-add}
 use Rattle.std.proofs.lemmas.Bool.{cases_lt, eq-eqb, eqb-true, false_from_ne_true, false≢true, lt-ltb, ltb-true, not-true, or_cases, or_right}
@@ -22,7 +22,7 @@ use Rattle.domains.specs.Search.{AreChainsNested, AreStartsWithin, overs_in}
 use Rattle.domains.specs.Starts.{allowed_of, exceeds, hosts_off, place_at}
 use Rattle.domains.specs.declared.finding.Crossing.{Crossing}
 use Rattle.domains.specs.declared.finding.Finding.{Finding}
-use Rattle.domains.specs.declared.finding.Finding.TheVariants.{Nesting}
+use Rattle.domains.specs.declared.finding.Finding.TheVariants.{Nesting, Start}
 use Rattle.domains.proofs.ByNumber.{group_name}
 use Rattle.domains.proofs.KnownLists.{AreListsOf}
 use Rattle.domains.proofs.StartLemmas.{down_at}
@@ -98,7 +98,10 @@ no_crossings ends chains nested =
 
 not_over : (group : ℕ) (limit : Option ℕ) (down : ℕ) → over_by group limit down ≡ [] → exceeds limit down ≡ false
 not_over group None down none = refl
-not_over group (Some limit) down none = not-true (nat_lt limit down) (kept (not (nat_lt limit down)) _ none)
+not_over group (Some limit) down none =
+    false_from_ne_true (nat_lt limit down) (λ e.
+    let one : Start group down limit ∷ [] ≡ [] = ap (λ b. cond b (Start group down limit ∷ []) []) (sym e) ∙ none in
+    absurd (cc))
 
 no_findings : (crossings : List Crossing) (overs : List Finding) → findings crossings overs ≡ [] → (crossings ≡ []) × (overs ≡ [])
 no_findings [] overs none = (refl, none)

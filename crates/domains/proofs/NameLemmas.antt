@@ -4,9 +4,11 @@ use Rattle.std.proofs.Common.{get_or, map, take, sym, ap, ◌∙◌, refl, arith
 use Rattle.std.specs.List.{list_any, position, position_or_len}
 use Rattle.std.specs.Prelude.{String}
 use Rattle.std.specs.String.{string_bytes, string_eq}
-use Rattle.std.proofs.lemmas.Bool.{false_from_ne_true, false≢true}
+use Rattle.std.proofs.lemmas.Bool.{false_from_ne_true, false≢true, ltb-false}
 use Rattle.std.proofs.lemmas.List.{length-map, map-append, take_more}
+use Rattle.std.proofs.lemmas.List.Folds.{list_any_none}
 use Rattle.std.proofs.lemmas.List.Quantifiers.{position-Some}
+use Rattle.std.proofs.lemmas.List.Sums.{fails_before_first}
 use Rattle.group_tree.specs.Names.{Name, same_name, is_among, are_distinct}
 use Rattle.fleet_numbers.proofs.SortedNamesLemmas.{same_name-true, same_name-itself}
 use Rattle.indexmap.specs.IndexSet.{insert_key}
@@ -59,3 +61,13 @@ pub position_found : (name : Name) (names : List Name) (i : ℕ) → position (s
 position_found name names i e =
     let found = position-Some (same_name name) names i [] e in
     (found.0, sym (same_name-true name (get_or names i []) found.1))
+
+-- a name that has no place stands nowhere
+pub position_missing : (name : Name) (names : List Name) → position (same_name name) names ≡ None → is_among name names ≡ false
+position_missing name names e =
+    let first : ℕ = position_or_len (same_name name) names in
+    let past : nat_lt first (length names) ≡ false =
+    false_from_ne_true (nat_lt first (length names)) (λ f.
+    let some : position (same_name name) names ≡ Some first = ap (λ b. cond b (Some first) None) f in
+    absurd (cc)) in
+    list_any_none (same_name name) names (λ k d l. fails_before_first (same_name name) names k d (omega (arith, l, ltb-false first (length names) past)))

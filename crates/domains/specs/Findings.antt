@@ -1,5 +1,5 @@
 -- What keeps an inventory from being a fleet, by the numbers of its hosts and groups.
-use Rattle.std.specs.Prelude.{ℕ, Bool, not, ◌&&◌, nat_eq, nat_lt, Option, None, Some, List, [], ◌∷◌, map, filter, length}
+use Rattle.std.specs.Prelude.{ℕ, Bool, not, ◌&&◌, nat_eq, nat_lt, cond, Option, None, Some, List, [], ◌∷◌, map, filter, length}
 use Rattle.std.specs.List.{flat_map, range_with_len}
 use Rattle.text_parts.specs.Breaches.{unless}
 use Rattle.group_tree.specs.Places.{Place, Inventory}
@@ -43,7 +43,7 @@ each_pair (crossing ∷ later) = crossing ∷ filter (λ other. not (is_same_pai
 -- the group, where more of its hosts are down than its limit
 abbrev pub over_by : ℕ → Option ℕ → ℕ → List Finding
 over_by group None down = []
-over_by group (Some limit) down = unless (not (nat_lt limit down)) (Start group down limit)
+over_by group (Some limit) down = cond (nat_lt limit down) (Start group down limit ∷ []) []
 
 -- all such groups among the first, each with its limit and with how many of its hosts are down
 abbrev pub overs_until : (ℕ → Option ℕ) → (ℕ → ℕ) → ℕ → List Finding

@@ -1,5 +1,5 @@
 //! The pairs of limited groups that cross, each with the first of its hosts.
-ghost use Rattle.std.specs.Prelude.{◌≡◌, ℕ, ◌+◌, ◌*◌, ◌^◌, ◌<◌, ◌||◌, ◌++◌, [], false, nat_eq, length, map, slice_index_or, All, IfOk, IsTrue, List, OnOk};
+ghost use Rattle.std.specs.Prelude.{◌≡◌, ℕ, ◌*◌, ◌^◌, ◌<◌, ◌||◌, ◌++◌, [], false, nat_eq, length, map, slice_index_or, All, IfOk, IsTrue, List, OnOk};
 ghost use Rattle.fleet_numbers.specs.Chains.{ends_before};
 ghost use Rattle.fleet_numbers.specs.NumberLists.{IsRising};
 ghost use Rattle.domains.specs.Ids.{group_lists, group_numbers};

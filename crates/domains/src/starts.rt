@@ -1,5 +1,5 @@
 //! The groups that start over their limits.
-ghost use Rattle.std.specs.Prelude.{◌≡◌, ◌++◌, false, length, IfOk, OnOk, slice_index_or};
+ghost use Rattle.std.specs.Prelude.{◌≡◌, ◌++◌, ◌∷◌, [], cond, false, length, IfOk, OnOk, slice_index_or};
 ghost use Rattle.domains.specs.Ids.{host_lists, host_numbers};
 ghost use Rattle.domains.specs.FleetViews.{off_count};
 ghost use Rattle.domains.specs.Findings.{over_by};
@@ -33,6 +33,15 @@ pub(crate) fn count_off(hosts: &[HostId], off: &[bool]) -> usize
     count
 }
 
+fn push_where(found: &mut Vec<Finding>, over: Finding, is_over: bool) -> Result<(), AllocError>
+    ensures { OnOk result (found.new.items ≡ found.old.items ++ cond is_over (over ∷ []) []) }
+{
+    if is_over {
+        found.push(over)?;
+    }
+    Ok(())
+}
+
 /// Adds the group, where more of its hosts are off than its limit.
 fn push_over(
     found: &mut Vec<Finding>,
@@ -43,11 +52,11 @@ fn push_over(
     ensures { OnOk result (found.new.items ≡ found.old.items ++ over_by group limit down) }
 {
     match limit {
-        Some(limit) if usize::from(limit) < down => {
-            found.push(Finding::Start { group, down, limit })?;
-            Ok(())
+        Some(limit) => {
+            let over = Finding::Start { group, down, limit };
+            push_where(found, over, usize::from(limit) < down)
         }
-        _ => Ok(()),
+        None => Ok(()),
     }
 }
 

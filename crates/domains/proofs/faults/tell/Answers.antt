@@ -11,7 +11,7 @@ returns c =
     let name : Finding → Breach = named (host_names c.args.numbers.now) (listed_groups c.args.numbers.now) in
     record {
       first = c.loop-finding.invariant
-          ∙ ap (map (λ finding. Some (name finding))) (take_all _ _ c.loop-finding-test.false ∙ c.as_slice.ensures.value ∙ c.truncate.ensures.items)
+          ∙ ap (map (λ finding. Some (name finding))) (take_all _ _ c.loop-finding-test.false ∙ c.as_slice-finding-items.ensures.value ∙ c.truncate.ensures.items)
           ∙ sym (map-map Some name (take c.args.most c.args.found.items))
           ∙ ap (map Some) (sym (take-map name c.args.most c.args.found.items));
       others = omega (arith, c.len.ensures, c.saturating_sub-more.ensures, c.args.found.ok.0, length-map c.args.found.items name);
