@@ -134,18 +134,18 @@ module _ (inventory : Inventory) (n : Numbers) (l : FleetLists) (numbered : IsNu
       subst (IsParentOf inventory.places g) (sym here) (is_parent inventory.places within.distinct within.preorder g l)
 
   outermost_first : AreChainsNested subtree_ends chains → All (IsOutermostFirst inventory.places) chains
-  outermost_first nested_chains h d l i j before within =
+  outermost_first nested_chains h d l i j before last =
       let chain = get_or chains h d in
       let outer : ℕ = get_or chain i 0 in
       let inner : ℕ = get_or chain j 0 in
       let same : chain ≡ list_at chains h = get_or_default chains h d [] l in
       let inside : h < length hosts = omega (arith, l, known.chains_len) in
       let up : Ascends 0 (length inventory.places) chain = Ascends-rising (length inventory.places) chain (known.chains_rise h d l) in
-      let rises : outer < inner = ascends_at 0 (length inventory.places) chain i j up before within in
+      let rises : outer < inner = ascends_at 0 (length inventory.places) chain i j up before last in
       let stands : (n : ℕ) → n < length chain → has_number (get_or chain n 0) (list_at chains h) ≡ true =
       λ n m. ap (has_number (get_or chain n 0)) (sym same) ∙ list_any_at (nat_eq (get_or chain n 0)) chain n 0 m (eq-eqb _ _ refl) in
-      let outer_in : has_number outer (list_at chains h) ≡ true = stands i (omega (arith, before, within)) in
-      let inner_in : has_number inner (list_at chains h) ≡ true = stands j within in
+      let outer_in : has_number outer (list_at chains h) ≡ true = stands i (omega (arith, before, last)) in
+      let inner_in : has_number inner (list_at chains h) ≡ true = stands j last in
       let below = known.chain_within inner h inside inner_in in
       let apart = known.ends_before_at outer inner rises below ∙ nested_chains h l outer inner outer_in inner_in in
       above_of inventory.places within.distinct within.preorder outer inner rises below apart

@@ -5,7 +5,7 @@ use Rattle.std.proofs.Math.Nat.{mul-le-mul_left, zero-add}
 use Rattle.std.proofs.lemmas.Bool.{cases_lt, eq-eqb, eqb-true, false_from_ne_true, false≢true, lt-ltb, ltb-true, not-true, or_cases, or_right}
 use Rattle.std.proofs.lemmas.List.{flat_map_more, length-map, map_more}
 use Rattle.std.proofs.lemmas.List.Folds.{list_any_at}
-use Rattle.std.proofs.lemmas.List.FromFn.{counting_more, get_or-range_with_len, length-range_with_len}
+use Rattle.std.proofs.lemmas.List.FromFn.{get_or-range_with_len, length-range_with_len}
 use Rattle.text_parts.specs.Breaches.{unless}
 use Rattle.text_parts.proofs.BreachLaws.{kept, no_first, no_second}
 use Rattle.group_tree.specs.Names.{Name}
@@ -13,6 +13,7 @@ use Rattle.group_tree.specs.Places.{Inventory}
 use Rattle.group_tree.specs.declared.ids.GroupId.{GroupId}
 use Rattle.fleet_numbers.specs.Chains.{ends_before, IsNestedChain}
 use Rattle.fleet_numbers.specs.NumberLists.{has_number, list_at}
+use Rattle.fleet_numbers.proofs.NumberLemmas.{range_more}
 use Rattle.domains.specs.FleetViews.{off_count}
 use Rattle.domains.specs.Findings.{all_crossings, all_findings, all_overs, are_crossing, crossing_if, crossings_among, crossings_in, crossings_with, each_pair, findings, over_by}
 use Rattle.domains.specs.Ids.{group_numbers}
@@ -29,7 +30,7 @@ use Rattle.domains.proofs.StartLemmas.{down_at}
 
 -- a list of lists with one number more
 pub range_step : {X : Type 0} (f : ℕ → List X) (n : ℕ) → flat_map f (range_with_len 0 n) ++ f n ≡ flat_map f (range_with_len 0 (n + 1))
-range_step f n = flat_map_more f [] (range_with_len 0 n) n ∙ ap (flat_map f) (sym (counting_more 0 n n (zero-add n)))
+range_step f n = flat_map_more f [] (range_with_len 0 n) n ∙ ap (flat_map f) (sym (range_more n))
 
 pub group_step : {X : Type 0} (f : ℕ → List X) (before : List X) (groups : List GroupId) (i : ℕ) → i < length groups
     → (before ++ flat_map f (group_numbers (take i groups))) ++ f (get_or groups i (record { index = 0 })).index
@@ -65,11 +66,11 @@ nothing (x ∷ xs) = nothing xs
 
 none_at : {X : Type 0} (f : ℕ → List X) (xs : List ℕ) → flat_map f xs ≡ [] → (n : ℕ) → has_number n xs ≡ true → f n ≡ []
 none_at f [] none n e = absurd (false≢true e)
-none_at f (x ∷ xs) none n e = by_case (or_cases (nat_eq n x) (has_number n xs) e)
+none_at f (x ∷ xs) none n e = by_case (or_cases (nat_eq n x) (has_number n xs) e) (none_at f xs (no_second (f x) (flat_map f xs) none) n)
   where
-    by_case : (nat_eq n x ≡ true) ⊎ (has_number n xs ≡ true) → f n ≡ []
-    by_case (inl same) = ap f (eqb-true n x same) ∙ no_first (f x) (flat_map f xs) none
-    by_case (inr later) = none_at f xs (no_second (f x) (flat_map f xs) none) n later
+    by_case : (nat_eq n x ≡ true) ⊎ (has_number n xs ≡ true) → (has_number n xs ≡ true → f n ≡ []) → f n ≡ []
+    by_case (inl same) among = ap f (eqb-true n x same) ∙ no_first (f x) (flat_map f xs) none
+    by_case (inr later) among = among later
 
 -- a chain is nested where none of its groups cross
 nested_none : (ends chain : List ℕ) (host : ℕ) → IsNestedChain ends chain → crossings_among (ends_before ends) host chain ≡ []
@@ -184,9 +185,9 @@ module _ {inventory : Inventory} {hosts : List Name} {limits : List (Option ℕ)
   unbroken none =
       let parts = no_findings _ _ (all_same ∙ none) in (
         λ host m.
-        none_nested subtree_ends (list_at chains host) host
-        (none_at (λ h. crossings_among (ends_before subtree_ends) h (list_at chains h)) (range_with_len 0 (length chains)) parts.0 host (in_range (length chains) host m)),
+            none_nested subtree_ends (list_at chains host) host
+            (none_at (λ h. crossings_among (ends_before subtree_ends) h (list_at chains h)) (range_with_len 0 (length chains)) parts.0 host (in_range (length chains) host m)),
         λ group m.
-        not_over group (get_or limits group None) (off_count off (list_at members group))
-        (none_at over (range_with_len 0 (length limits)) parts.1 group (in_range (length limits) group (omega (arith, m, counts_len, known.members_len)))),
+            not_over group (get_or limits group None) (off_count off (list_at members group))
+            (none_at over (range_with_len 0 (length limits)) parts.1 group (in_range (length limits) group (omega (arith, m, counts_len, known.members_len)))),
       )

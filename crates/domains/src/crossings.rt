@@ -115,12 +115,7 @@ impl Crossings {
     }
 
     /// Adds the crossings of the host's groups.
-    fn add_at(
-        &mut self,
-        host: usize,
-        chain: &[GroupId],
-        ends: &[usize],
-    ) -> Result<(), AllocError>
+    fn add_at(&mut self, host: usize, chain: &[GroupId], ends: &[usize]) -> Result<(), AllocError>
         requires within { All (λ group. group.index < length ends.now) chain.now }
         requires few { length ends.now * length ends.now < 2 ^ 63 }
         requires sized { length self.old.marks.items ≡ length ends.now * length ends.now }

@@ -34,8 +34,8 @@ pub deal-requires-clause-sound : goal.deal-requires-clause-sound
 deal-requires-clause-sound g c = λ order.
     let n = c.in_ok-numbers.numbers in
     let few : length (host_names n) ≤ hosts_bound = omega (arith, c.if-len-gt-HOSTS_BOUND.false, c.len.ensures, length-map n.hosts.items (string_bytes {Z = Global})) in
-    let empty : length c.in_ok-found.found.items ≡ 0 = grind (arith, nat_tests, c.is_empty.ensures, c.if-is_empty.true, c.in_ok-found.found.ok.0) in
-    let found = c.in_ok-found.ensures c.args.tree.now c.in_ok-numbers.ensures.numbered c.in_ok-numbers.ensures.within in
+    let empty : length c.in_ok-found-2.found.items ≡ 0 = grind (arith, nat_tests, c.is_empty.ensures, c.if-is_empty.true, c.in_ok-found-2.found.ok.0) in
+    let found = c.in_ok-found-2.ensures c.args.tree.now c.in_ok-numbers.ensures.numbered c.in_ok-numbers.ensures.within in
     sound c.args.tree.now n c.in_ok-lists.lists c.in_ok-numbers.ensures.numbered c.in_ok-numbers.ensures.within c.in_ok-lists.ensures order few (sym found ∙ nil_from_length _ empty)
 
 pub returns-then-is_empty-clause-fleet : goal.returns-then-is_empty-clause-fleet
@@ -43,23 +43,23 @@ returns-then-is_empty-clause-fleet g c =
     let n = c.in_ok-numbers.numbers in
     let l = c.in_ok-lists.lists in
     let few : length (host_names n) ≤ hosts_bound = omega (arith, c.if-len-gt-HOSTS_BOUND.false, c.len.ensures, length-map n.hosts.items (string_bytes {Z = Global})) in
-    let empty : length c.in_ok-found.found.items ≡ 0 = grind (arith, nat_tests, c.is_empty.ensures, c.if-is_empty.true, c.in_ok-found.found.ok.0) in
-    let found = c.in_ok-found.ensures c.args.tree.now c.in_ok-numbers.ensures.numbered c.in_ok-numbers.ensures.within in
+    let empty : length c.in_ok-found-2.found.items ≡ 0 = grind (arith, nat_tests, c.is_empty.ensures, c.if-is_empty.true, c.in_ok-found-2.found.ok.0) in
+    let found = c.in_ok-found-2.ensures c.args.tree.now c.in_ok-numbers.ensures.numbered c.in_ok-numbers.ensures.within in
     let fleet : FleetView = c.in_ok-fleet.fleet in
     let dealt : fleet ≡ dealt_fleet n l fleet.order = c.in_ok-fleet.ensures.dealt in (
       subst (IsFleetOf c.args.tree.now) (sym dealt)
           (fleet_of c.args.tree.now n l c.in_ok-numbers.ensures.numbered c.in_ok-numbers.ensures.within c.in_ok-lists.ensures fleet.order (sym found ∙ nil_from_length _ empty)
           (subst IsSound dealt c.in_ok-fleet.ensures.sound)),
-      sym (few_hosts c.args.tree.now n c.in_ok-found.found.items c.in_ok-numbers.ensures.numbered few found) ∙ ap (map _) (nil_from_length _ empty),
+      sym (few_hosts c.args.tree.now n c.in_ok-found-2.found.items c.in_ok-numbers.ensures.numbered few found) ∙ ap (map _) (nil_from_length _ empty),
     )
 
 pub returns-clause-told : goal.returns-clause-told
 returns-clause-told g c =
     let n = c.in_ok-numbers.numbers in
     let few : length (host_names n) ≤ hosts_bound = omega (arith, c.if-len-gt-HOSTS_BOUND.false, c.len.ensures, length-map n.hosts.items (string_bytes {Z = Global})) in
-    let some : 0 < length c.in_ok-found.found.items = grind (arith, nat_tests, c.is_empty.ensures, c.if-is_empty.false, c.in_ok-found.found.ok.0) in
-    let found = c.in_ok-found.ensures c.args.tree.now c.in_ok-numbers.ensures.numbered c.in_ok-numbers.ensures.within in
-    let all = few_hosts c.args.tree.now n c.in_ok-found.found.items c.in_ok-numbers.ensures.numbered few found in (
-      subst (λ (all : List Breach). TellsFirst c.args.most all c.in_ok-told.told) all c.in_ok-told.ensures,
-      λ none. absurd (omega (arith, some, ap length (all ∙ none), length-map c.in_ok-found.found.items (named (host_names n) (listed_groups n)))),
+    let some : 0 < length c.in_ok-found-2.found.items = grind (arith, nat_tests, c.is_empty.ensures, c.if-is_empty.false, c.in_ok-found-2.found.ok.0) in
+    let found = c.in_ok-found-2.ensures c.args.tree.now c.in_ok-numbers.ensures.numbered c.in_ok-numbers.ensures.within in
+    let all = few_hosts c.args.tree.now n c.in_ok-found-2.found.items c.in_ok-numbers.ensures.numbered few found in (
+      subst (λ (all : List Breach). TellsFirst c.args.most all c.in_ok-told-2.told) all c.in_ok-told-2.ensures,
+      λ none. absurd (omega (arith, some, ap length (all ∙ none), length-map c.in_ok-found-2.found.items (named (host_names n) (listed_groups n)))),
     )
