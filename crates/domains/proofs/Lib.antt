@@ -13,12 +13,14 @@ pub mod KnownLists
 pub mod FleetLemmas
 pub mod CrossingLemmas
 pub mod StartLemmas
+pub mod FindingLemmas
 pub mod TogetherLemmas
 pub mod SubtreeLemmas
 pub mod SoundLemmas
 pub mod MadeLemmas
 pub mod BuildLemmas
-pub mod BreachLemmas
+pub mod PairLemmas
+pub mod FaultLemmas
 pub mod ReaderLemmas
 pub mod MarkLemmas
 pub mod ListedLemmas

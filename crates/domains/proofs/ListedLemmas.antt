@@ -1,8 +1,8 @@
 -- Names with fewer of those that stand twice.
-use Rattle.std.proofs.Common.{◌≡◌, ℕ, ◌+◌, ◌<◌, Bool, true, false, ◌||◌, List, [], ◌∷◌, ◌++◌, length, get_or, map, take, Bor, sym, ap, ◌∙◌, refl}
+use Rattle.std.proofs.Common.{◌≡◌, ℕ, ◌<◌, Bool, true, false, ◌||◌, List, [], ◌∷◌, ◌++◌, length, get_or, map, Bor, sym, ap, ◌∙◌, refl}
 use Rattle.std.proofs.Math.Bool.{or-true, or-false}
 use Rattle.std.proofs.lemmas.List.{map-append}
-use Rattle.std.proofs.lemmas.List.Folds.{list_any-append, list_any_more, list_any_at}
+use Rattle.std.proofs.lemmas.List.Folds.{list_any-append, list_any_at}
 use Rattle.group_tree.specs.Names.{Name, same_name, is_among}
 use Rattle.fleet_numbers.specs.SortedNames.{sorted_names}
 use Rattle.fleet_numbers.proofs.SortedNamesLemmas.{same_rising, is_rising-sorted_names, is_among-sorted_names}
@@ -31,11 +31,6 @@ listed_more old new name other is =
     ∙ ap (is_among other) (map-append (λ (name : Bor Name). name.now) old (name ∷ []))
     ∙ list_any-append (same_name other) (lent_names old) (name.now ∷ [])
     ∙ ap (λ b. is_among other (lent_names old) || b) (or-false (same_name other name.now))
-
--- one more name among the first
-pub among_more : (names : List Name) (i : ℕ) (other : Name) → i < length names
-    → is_among other (take (i + 1) names) ≡ (is_among other (take i names) || same_name other (get_or names i []))
-among_more names i other l = list_any_more (same_name other) names i [] l
 
 -- the same names in order are the same list
 pub sorted_alike : (xs ys : List Name) → ((other : Name) → is_among other xs ≡ is_among other ys) → sorted_names xs ≡ sorted_names ys

@@ -1,5 +1,5 @@
 -- Flags of the hosts that names name.
-use Rattle.std.proofs.Common.{◌≡◌, ℕ, ◌+◌, ◌≤◌, ◌<◌, Bool, true, false, ◌||◌, not, cond, nat_eq, None, All, List, [], ◌∷◌, ◌++◌, length, get_or, position}
+use Rattle.std.proofs.Common.{◌≡◌, ℕ, ◌≤◌, ◌<◌, Bool, true, false, ◌||◌, not, nat_eq, None, All, List, [], length, get_or, position}
 use Rattle.std.proofs.Common.{slice_set, sym, ap, ◌∙◌, subst, arith, inl, inr, ◌⊎◌}
 use Rattle.std.proofs.lemmas.Bool.{cases_eq, cases_lt, eq-eqb, ne_eqb, false≢true, or_left, or_right}
 use Rattle.std.proofs.lemmas.List.{get_or-set_same, get_or-set_other, get_or_default, get_or_past, length-set}
@@ -8,7 +8,7 @@ use Rattle.std.proofs.Math.Bool.{or-false}
 use Rattle.group_tree.specs.Names.{Name, same_name, is_among}
 use Rattle.fleet_numbers.specs.NumberLists.{has_number, list_at, numbers_where, IsRising}
 use Rattle.fleet_numbers.proofs.SortedNamesLemmas.{same_name-itself}
-use Rattle.fleet_numbers.proofs.RisingLemmas.{Ascends-rising, has_number-within, below_at, are_below-rising, numbers_where_more}
+use Rattle.fleet_numbers.proofs.RisingLemmas.{Ascends-rising, has_number-within, below_at, are_below-rising}
 use Rattle.domains.specs.Numbered.{host_at}
 use Rattle.domains.specs.FleetViews.{FleetView}
 use Rattle.domains.specs.Patterns.{AreFlags, is_meant, is_named_by, names_nothing}
@@ -91,7 +91,3 @@ pub flagged_are : (fleet : FleetView) (flags : List Bool) (test : ℕ → Bool) 
     → ((h : ℕ) → h < length fleet.hosts → get_or flags h false ≡ (old h || test h)) → numbers ≡ numbers_where test (length fleet.hosts)
 flagged_are fleet flags test numbers old are len none marked =
     are ∙ ap (numbers_where (is_flagged flags)) len ∙ numbers_where-same (is_flagged flags) test (length fleet.hosts) (λ k l. marked k l ∙ ap (λ b. b || test k) (none k))
-
--- one more number is listed where it has its flag
-pub listed_more : (flags : List Bool) (i : ℕ) → numbers_where (is_flagged flags) (i + 1) ≡ numbers_where (is_flagged flags) i ++ cond (get_or flags i false) (i ∷ []) []
-listed_more flags i = numbers_where_more (is_flagged flags) i

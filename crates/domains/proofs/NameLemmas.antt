@@ -4,9 +4,11 @@ use Rattle.std.proofs.Common.{get_or, map, take, sym, ap, ◌∙◌, refl, arith
 use Rattle.std.specs.List.{list_any, position, position_or_len}
 use Rattle.std.specs.Prelude.{String}
 use Rattle.std.specs.String.{string_bytes, string_eq}
-use Rattle.std.proofs.lemmas.Bool.{false≢true, lt-ltb, ltb-false, le-ltb}
+use Rattle.std.proofs.lemmas.Bool.{false_from_ne_true, false≢true, ltb-false}
 use Rattle.std.proofs.lemmas.List.{length-map, map-append, take_more}
+use Rattle.std.proofs.lemmas.List.Folds.{list_any_none}
 use Rattle.std.proofs.lemmas.List.Quantifiers.{position-Some}
+use Rattle.std.proofs.lemmas.List.Sums.{fails_before_first}
 use Rattle.group_tree.specs.Names.{Name, same_name, is_among, are_distinct}
 use Rattle.fleet_numbers.proofs.SortedNamesLemmas.{same_name-true, same_name-itself}
 use Rattle.indexmap.specs.IndexSet.{insert_key}
@@ -14,13 +16,7 @@ use Rattle.domains.proofs.BeginLemmas.{distinct_at}
 use Rattle.group_tree.proofs.MemberLemmas.{list_any-map}
 
 same_back : (x y : Name) → same_name x y ≡ false → same_name y x ≡ false
-same_back x y e = by_case (same_name y x) refl
-  where
-    by_case : (b : Bool) → same_name y x ≡ b → b ≡ false
-    by_case true f =
-        let same : y ≡ x = same_name-true y x f in
-        absurd (false≢true (sym e ∙ ap (same_name x) same ∙ same_name-itself x))
-    by_case false f = refl
+same_back x y e = false_from_ne_true (same_name y x) (λ f. false≢true (sym e ∙ ap (same_name x) (same_name-true y x f) ∙ same_name-itself x))
 
 -- none of the first names is the one after them
 fresh_among : (names : List Name) (name : Name) (i : ℕ) → ((k : ℕ) → k < i → same_name name (get_or names k []) ≡ false) → i < length names → is_among name (take i names) ≡ false
@@ -66,33 +62,12 @@ position_found name names i e =
     let found = position-Some (same_name name) names i [] e in
     (found.0, sym (same_name-true name (get_or names i []) found.1))
 
--- the first place where a name stands, and the length where it stands nowhere
-abbrev first_place : Name → List Name → ℕ
-first_place name names = position_or_len (same_name name) names
-
--- where the search goes past the end, the name is not there
-absent : (name : Name) (names : List Name) → nat_lt (first_place name names) (length names) ≡ false → is_among name names ≡ false
-absent name [] e = refl
-absent name (x ∷ names) e = by_case (absent name names) (same_name name x) refl
-  where
-    less : (n m : ℕ) → nat_lt (1 + n) (suc m) ≡ false → nat_lt n m ≡ false
-    less n m f = le-ltb n m (omega (arith, ltb-false (1 + n) (suc m) f))
-
-    by_case : (nat_lt (first_place name names) (length names) ≡ false → is_among name names ≡ false) → (b : Bool) → same_name name x ≡ b
-        → (same_name name x || is_among name names) ≡ false
-    by_case later true f =
-        absurd (false≢true (sym e ∙ ap (λ b. nat_lt (cond (not b) (1 + first_place name names) 0) (suc (length names))) f ∙ lt-ltb 0 (suc (length names)) (omega arith)))
-    by_case later false f =
-        let whole : nat_lt (1 + first_place name names) (suc (length names)) ≡ false =
-        sym (ap (λ b. nat_lt (cond (not b) (1 + first_place name names) 0) (suc (length names))) f) ∙ e in
-        ap (λ b. b || is_among name names) f ∙ later (less (first_place name names) (length names) whole)
-
 -- a name that has no place stands nowhere
 pub position_missing : (name : Name) (names : List Name) → position (same_name name) names ≡ None → is_among name names ≡ false
-position_missing name names e = absent name names (by_case (nat_lt (first_place name names) (length names)) refl)
-  where
-    by_case : (b : Bool) → nat_lt (first_place name names) (length names) ≡ b → b ≡ false
-    by_case true f =
-        let some : position (same_name name) names ≡ Some (first_place name names) = ap (λ b. cond b (Some (first_place name names)) None) f in
-        absurd (cc)
-    by_case false f = refl
+position_missing name names e =
+    let first : ℕ = position_or_len (same_name name) names in
+    let past : nat_lt first (length names) ≡ false =
+    false_from_ne_true (nat_lt first (length names)) (λ f.
+    let some : position (same_name name) names ≡ Some first = ap (λ b. cond b (Some first) None) f in
+    absurd (cc)) in
+    list_any_none (same_name name) names (λ k d l. fails_before_first (same_name name) names k d (omega (arith, l, ltb-false first (length names) past)))

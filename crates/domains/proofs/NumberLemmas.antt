@@ -1,11 +1,11 @@
 -- What the numbers of hosts and groups say of an inventory.
-use Rattle.std.proofs.Common.{◌≡◌, ℕ, suc, ◌+◌, ◌<◌, Bool, true, false, ◌||◌, ◌&&◌, cond, nat_eq, Option, None, List, [], ◌∷◌, ◌++◌, length, map}
+use Rattle.std.proofs.Common.{◌≡◌, ℕ, suc, ◌+◌, ◌<◌, Bool, false, ◌||◌, ◌&&◌, cond, nat_eq, Option, None, List, [], ◌∷◌, ◌++◌, length, map}
 use Rattle.std.proofs.Common.{sym, ap, ◌∙◌, refl, subst, arith, inl, inr, ◌⊎◌}
 use Rattle.std.specs.List.{list_any, flat_map}
 use Rattle.std.specs.List.Sorted.{IsStrictlySortedBy}
 use Rattle.std.specs.Option.{option_or}
 use Rattle.std.specs.declared.cmp.Ordering.TheVariants.{Less, Equal}
-use Rattle.std.proofs.lemmas.Bool.{cases_order, eq-eqb, ne_eqb}
+use Rattle.std.proofs.lemmas.Bool.{cases_order, eq-eqb, false_from_ne_true, ne_eqb}
 use Rattle.std.proofs.lemmas.Cmp.{nat_list_cmp_total, tied_itself}
 use Rattle.std.proofs.lemmas.List.{map-append, get_or_at, length-append, append_assoc}
 use Rattle.std.proofs.lemmas.List.Elements.{All-head, All-tail, All-append, All-map, All-weaker}
@@ -45,17 +45,16 @@ same_host hosts i j up l m = by_case (cases_order i j)
         let less' : name_cmp own own ≡ Less = subst (λ (n : Name). name_cmp n own ≡ Less) e less in
         cc
 
-    differ : (b : Bool) → same_name (host_at hosts i) (host_at hosts j) ≡ b → (host_at hosts i ≡ host_at hosts j → ⊥) → b ≡ false
-    differ true e d = absurd (d (same_name-true (host_at hosts i) (host_at hosts j) e))
-    differ false e d = refl
+    differ : (host_at hosts i ≡ host_at hosts j → ⊥) → same_name (host_at hosts i) (host_at hosts j) ≡ false
+    differ d = false_from_ne_true (same_name (host_at hosts i) (host_at hosts j)) (λ e. d (same_name-true (host_at hosts i) (host_at hosts j) e))
 
     by_case : (i ≡ j) ⊎ ((i < j) ⊎ (j < i)) → same_name (host_at hosts i) (host_at hosts j) ≡ nat_eq i j
     by_case (inl e) =
         ap (λ (n : ℕ). same_name (host_at hosts i) (host_at hosts n)) (sym e) ∙ same_name-itself (host_at hosts i) ∙ sym (eq-eqb i j e)
     by_case (inr (inl q)) =
-        differ (same_name (host_at hosts i) (host_at hosts j)) refl (apart i j q m) ∙ sym (ne_eqb i j (λ e. omega (arith, e, q)))
+        differ (apart i j q m) ∙ sym (ne_eqb i j (λ e. omega (arith, e, q)))
     by_case (inr (inr q)) =
-        differ (same_name (host_at hosts i) (host_at hosts j)) refl (λ e. apart j i q l (sym e)) ∙ sym (ne_eqb i j (λ e. omega (arith, e, q)))
+        differ (λ e. apart j i q l (sym e)) ∙ sym (ne_eqb i j (λ e. omega (arith, e, q)))
 
 -- rows by the numbers of their groups are the inventory's
 abbrev pub groups_of : List PlacedGroup → List Subtree

@@ -1,7 +1,7 @@
 -- Paths of names and paths of numbers say the same.
 use Rattle.std.proofs.Common.{◌≡◌, ℕ, zero, suc, ◌≤◌, ◌<◌, Bool, true, false, ◌||◌, not, nat_eq, nat_lt, List, [], ◌∷◌, ◌++◌, length, get_or, take, map}
 use Rattle.std.proofs.Common.{sym, ap, ◌∙◌, refl, subst, arith, inl, inr, ◌⊎◌}
-use Rattle.std.proofs.lemmas.Bool.{cases_eq, cases_order, eq-eqb, ne_eqb, false≢true, and_parts, or_left, or_right}
+use Rattle.std.proofs.lemmas.Bool.{cases_eq, cases_order, eq-eqb, ne_eqb, false_from_ne_true, false≢true, and_parts, or_left, or_right}
 use Rattle.std.proofs.lemmas.List.{length-map, get_or-map, take-map, map-append}
 use Rattle.std.proofs.lemmas.List.Folds.{list_any-append}
 use Rattle.group_tree.specs.Names.{Name, same_name, is_among, are_distinct, begins}
@@ -43,13 +43,7 @@ module _ (places : List Place) (distinct : are_distinct (group_names places) ≡
   none_above l = begins_none (names_above places 0) (goes_first [] places preorder l)
 
   pub never_above : (g k : ℕ) → g < k → k < length places → is_above places k g ≡ false
-  never_above g k l m = none (is_above places k g) refl
-    where
-      none : (b : Bool) → is_above places k g ≡ b → b ≡ false
-      none true e =
-          let r : k ≤ g = on_within (depths_of places) k g (omega (arith, long)) e in
-          absurd (omega arith)
-      none false e = refl
+  never_above g k l m = false_from_ne_true (is_above places k g) (λ e. absurd (omega (arith, l, on_within (depths_of places) k g (omega (arith, l, m, long)) e)))
 
   pub same_place : (g k : ℕ) → g < length places → k < length places → same_name (group_name places g) (group_name places k) ≡ nat_eq g k
   same_place g k l m = by_case (cases_order g k)
@@ -69,15 +63,10 @@ module _ (places : List Place) (distinct : are_distinct (group_names places) ≡
           ∙ sym (eq-eqb g k e)
       by_case (inr (inl q)) = differ g k q m ∙ sym (ne_eqb g k (λ e. omega (arith, e, q)))
       by_case (inr (inr q)) =
-          flipped (same_name (group_name places g) (group_name places k)) refl (differ k g q l) ∙ sym (ne_eqb g k (λ e. omega (arith, e, q)))
-        where
-          flipped : (b : Bool) → same_name (group_name places g) (group_name places k) ≡ b
-              → same_name (group_name places k) (group_name places g) ≡ false → b ≡ false
-          flipped true e other =
-              let same : group_name places g ≡ group_name places k = same_name-true (group_name places g) (group_name places k) e in
-              let itself : same_name (group_name places k) (group_name places k) ≡ true = same_name-itself (group_name places k) in
-              absurd (false≢true (sym other ∙ ap (same_name (group_name places k)) same ∙ itself))
-          flipped false e other = refl
+          let own : Name = group_name places k in
+          false_from_ne_true (same_name (group_name places g) own)
+          (λ e. false≢true (sym (differ k g q l) ∙ ap (same_name own) (same_name-true (group_name places g) own e) ∙ same_name-itself own))
+          ∙ sym (ne_eqb g k (λ e. omega (arith, e, q)))
 
   -- the numbers on a path are those of the names on it
   pub path_names : (k : ℕ) → k < length places → map (group_name places) (path_at places k) ≡ names_to places k
@@ -122,13 +111,8 @@ module _ (places : List Place) (distinct : are_distinct (group_names places) ≡
       let up = Ascends-take d 0 (suc k) (path_at places k) (path_ascends (depths_of places) k (omega (arith, long))) in
       ap (is_among (name (suc k))) numbers
       ∙ among_numbers (suc k) 0 (suc k) (take d (path_at places k)) l (omega arith) up
-      ∙ none (take d (path_at places k)) (has_number (suc k) (take d (path_at places k))) refl up
-    where
-      none : (above : List ℕ) (b : Bool) → has_number (suc k) above ≡ b → Ascends 0 (suc k) above → b ≡ false
-      none above true e up =
-          let r = has_number-within (suc k) 0 (suc k) above up e in
-          absurd (omega (arith, r.1))
-      none above false e up = refl
+      ∙ false_from_ne_true (has_number (suc k) (take d (path_at places k)))
+      (λ e. absurd (omega (arith, (has_number-within (suc k) 0 (suc k) (take d (path_at places k)) up e).1)))
 
   -- a group on the path of another has a path that begins the other's
   path_begins : (g k : ℕ) → g < length places → k < length places → is_above places g k ≡ true → begins (names_to places g) (names_to places k) ≡ true

@@ -1,6 +1,6 @@
 -- Chains and members of a fleet, by numbers alone.
-use Rattle.std.proofs.Common.{◌≡◌, ℕ, ◌≤◌, ◌<◌, Bool, true, false, ◌&&◌, not, nat_lt, Option, Some, None, List, [], length, get_or, sym, ap, ◌∙◌, refl, arith, inl, inr, ◌⊎◌}
-use Rattle.std.proofs.lemmas.Bool.{cases_lt, false≢true, and_parts, lt-ltb, le-ltb, ltb-false}
+use Rattle.std.proofs.Common.{◌≡◌, ℕ, ◌≤◌, ◌<◌, Bool, true, false, ◌&&◌, not, nat_lt, Option, Some, None, List, [], length, get_or, sym, ap, ◌∙◌, arith, inl, inr, ◌⊎◌}
+use Rattle.std.proofs.lemmas.Bool.{cases_lt, false_from_ne_true, false≢true, and_parts, lt-ltb, le-ltb, ltb-false}
 use Rattle.std.proofs.lemmas.List.{get_or_past, length-map}
 use Rattle.std.proofs.Math.Bool.{and-false}
 use Rattle.group_tree.specs.Names.{Name}
@@ -54,11 +54,7 @@ module _ {inventory : Inventory} {hosts : List Name} {limits : List (Option ℕ)
   past_chain g h (inl l) = by_case (cases_lt h (length hosts))
     where
       by_case : (h < length hosts) ⊎ (length hosts ≤ h) → has_number g (list_at chains h) ≡ false
-      by_case (inl m) = none (has_number g (list_at chains h)) refl
-        where
-          none : (b : Bool) → has_number g (list_at chains h) ≡ b → b ≡ false
-          none true e = absurd (omega (arith, known.chain_within g h m e, l))
-          none false e = refl
+      by_case (inl m) = false_from_ne_true (has_number g (list_at chains h)) (λ e. absurd (omega (arith, known.chain_within g h m e, l)))
       by_case (inr m) = no_list chains h g (omega (arith, m, known.chains_len))
 
   pub chain_exact : (h g : ℕ) → has_number g (list_at chains h) ≡ (is_limited limits g && has_number h (list_at members g))

@@ -1,5 +1,5 @@
 -- How many hosts of a group are off at the start, by numbers and by names.
-use Rattle.std.proofs.Common.{◌≡◌, ℕ, ◌+◌, ◌≤◌, ◌<◌, Bool, false, ◌&&◌, Option, None, List, [], length, get_or, filter, sym, ap, ◌∙◌, refl, arith, inl, inr, ◌⊎◌}
+use Rattle.std.proofs.Common.{◌≡◌, ℕ, ◌+◌, ◌≤◌, ◌<◌, Bool, false, ◌&&◌, Option, None, List, [], length, get_or, filter, sym, ap, ◌∙◌, arith, inl, inr, ◌⊎◌}
 use Rattle.std.specs.List.{range_with_len}
 use Rattle.std.proofs.lemmas.Bool.{cases_lt}
 use Rattle.std.proofs.lemmas.List.{get_or-map, get_or_past}
@@ -10,10 +10,9 @@ use Rattle.group_tree.specs.Places.{Place, Inventory}
 use Rattle.group_tree.specs.Members.{holds}
 use Rattle.fleet_numbers.specs.NumberLists.{list_at}
 use Rattle.domains.specs.Hosts.{is_off}
-use Rattle.domains.specs.Starts.{place_at, nowhere, allowed_of, exceeds, hosts_off, starts_over, StartsWithin, IsFirstOver}
+use Rattle.domains.specs.Starts.{place_at, nowhere, allowed_of, exceeds, hosts_off, starts_over, StartsWithin}
 use Rattle.domains.specs.Numbered.{host_at}
 use Rattle.domains.specs.FleetViews.{off_count}
-use Rattle.domains.specs.Search.{IsFirstOverGroup}
 use Rattle.domains.proofs.ByNumber.{group_name, holds_at, held_hosts}
 use Rattle.domains.proofs.WhereLemmas.{filter-filter, filtered_names}
 use Rattle.domains.proofs.KnownLists.{AreListsOf}
@@ -55,17 +54,3 @@ module _ {inventory : Inventory} {hosts : List Name} {limits : List (Option ℕ)
       by_case (inl l) = not_over number l (none number (omega (arith, l, known.members_len)))
       by_case (inr l) =
           ap (λ (p : Place). exceeds (allowed_of inventory p) (hosts_off inventory p.name)) (get_or_past inventory.places number nowhere l)
-
-  pub first_over : (group down limit : ℕ) → IsFirstOverGroup members limits off group down limit → IsFirstOver inventory (group_name inventory.places group) down limit
-  first_over group down limit found =
-      record {
-        number = group;
-        name = refl;
-        limited = sym (known.limit_at group) ∙ found.limited;
-        counted = found.counted ∙ down_at group inside;
-        over = found.over;
-        first = λ earlier l. not_over earlier (omega (arith, l, inside)) (found.before earlier l);
-      }
-    where
-      inside : group < length inventory.places
-      inside = omega (arith, found.within, known.members_len)

@@ -1,21 +1,28 @@
 -- Why an inventory is no fleet.
-use Rattle.std.specs.Prelude.{ℕ, ◌<◌, ◌≤◌, length}
-use Rattle.std.specs.String.{string_bytes}
+use Rattle.std.specs.Prelude.{◌≡◌, ℕ, ◌-◌, nat_lt, IfSome, Some, List, [], ◌∷◌, length, map, take, if◌then◌else◌}
+use Rattle.text_parts.specs.Breaches.{first_of}
+use Rattle.group_tree.specs.Bounds.{group_names}
 use Rattle.group_tree.specs.Places.{Inventory}
+use Rattle.domains.specs.Breaches.{Breach, TooManyHosts, breach_of, named}
+use Rattle.domains.specs.Findings.{all_findings}
 use Rattle.domains.specs.Hosts.{hosts_of}
-use Rattle.domains.specs.Starts.{IsFirstOver}
-use Rattle.domains.specs.Nested.{IsNested, IsLeastCrossing}
 use Rattle.domains.specs.declared.fault.FleetFault.{FleetFault}
-use Rattle.domains.specs.declared.fault.FleetFault.TheVariants.{TooManyHosts, NotNested, StartOver, Memory}
+use Rattle.domains.specs.declared.faults.FleetTold.{FleetTold}
 
 abbrev pub hosts_bound : ℕ
 hosts_bound = 4096
 
--- the fault names the first rule that the inventory breaks: the number of hosts, how limits nest, then the start
+-- 303 alone; each pair of limited groups that cross, with the first of its hosts; where all nest, each group that starts over its limit
+abbrev pub all_faults : Inventory → List Breach
+all_faults inventory =
+    if nat_lt hosts_bound (length (hosts_of inventory)) then TooManyHosts ∷ []
+    else map (named (hosts_of inventory) (group_names inventory.places)) (all_findings inventory)
+
+-- the fault is the first of all; nothing is said of want of memory
 abbrev pub IsFaultOf : Inventory → FleetFault → Type 0
-IsFaultOf inventory TooManyHosts = hosts_bound < length (hosts_of inventory)
-IsFaultOf inventory (NotNested host first second) =
-    (length (hosts_of inventory) ≤ hosts_bound) × IsLeastCrossing inventory (string_bytes host) (string_bytes first) (string_bytes second)
-IsFaultOf inventory (StartOver group down limit) =
-    (length (hosts_of inventory) ≤ hosts_bound) × IsNested inventory × IsFirstOver inventory (string_bytes group) down limit
-IsFaultOf inventory Memory = Unit {0}
+IsFaultOf inventory fault = IfSome (breach_of fault) (λ breach. first_of (all_faults inventory) ≡ Some breach)
+
+-- the first of these, at most so many, and how many more there are
+pub record TellsFirst (most : ℕ) (all : List Breach) (told : FleetTold) : Type 0 where
+  pub first : map breach_of told.faults.items ≡ map Some (take most all)
+  pub others : told.more ≡ length all - most

@@ -5,6 +5,8 @@ pub mod Members
 pub mod Ids
 pub mod FleetViews
 pub mod Fleets
+pub mod Breaches
+pub mod Findings
 pub mod Faults
 pub mod FaultNumbers
 pub mod Patterns

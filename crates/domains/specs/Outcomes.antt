@@ -1,5 +1,5 @@
--- What is made of an inventory's numbers and lists: the fault of a breach, or a fleet.
-use Rattle.std.specs.Prelude.{◌≡◌, ℕ, Option, List, length, map, option_map}
+-- What is made of an inventory's numbers and lists.
+use Rattle.std.specs.Prelude.{ℕ, Option, List, length, map, option_map}
 use Rattle.std.specs.String.{string_bytes}
 use Rattle.domains.specs.FleetViews.{FleetView}
 use Rattle.domains.specs.Ids.{host_lists, group_lists}
@@ -7,14 +7,10 @@ use Rattle.group_tree.specs.Names.{Name}
 use Rattle.group_tree.specs.Places.{Inventory}
 use Rattle.group_tree.specs.DownLimits.{Limit}
 use Rattle.group_tree.specs.Limits.{limit_of}
-use Rattle.domains.specs.Numbered.{IsNumbering, host_at}
+use Rattle.domains.specs.Numbered.{IsNumbering}
 use Rattle.domains.specs.FleetLists.{AreFleetLists}
 use Rattle.domains.specs.declared.numbers.Numbers.{Numbers}
 use Rattle.domains.specs.declared.lists.FleetLists.{FleetLists}
-use Rattle.domains.specs.declared.search.Breach.{Breach}
-use Rattle.domains.specs.declared.search.Breach.TheVariants.{Nesting, Start}
-use Rattle.domains.specs.declared.fault.FleetFault.{FleetFault}
-use Rattle.domains.specs.declared.fault.FleetFault.TheVariants.{NotNested, StartOver}
 
 -- the names of the hosts and of the groups, and the groups' limits
 abbrev pub host_names : Numbers → List Name
@@ -36,16 +32,6 @@ abbrev pub AreListsFrom : Numbers → FleetLists → Type 0
 AreListsFrom numbers lists =
     AreFleetLists (length (host_names numbers)) (own_limits numbers) numbers.depths.items numbers.rows.items lists.limits.items
     (group_lists lists.chains.items) (host_lists lists.members.items) lists.parents.items lists.subtree_ends.items
-
--- the fault tells the breach by the names of its host and groups
-abbrev pub IsNamed : Numbers → Breach → FleetFault → Type 0
-IsNamed numbers (Nesting crossing) (NotNested host first second) =
-    (string_bytes host ≡ host_at (host_names numbers) crossing.host)
-    × (string_bytes first ≡ host_at (listed_groups numbers) crossing.first)
-    × (string_bytes second ≡ host_at (listed_groups numbers) crossing.second)
-IsNamed numbers (Start over) (StartOver group down limit) =
-    (string_bytes group ≡ host_at (listed_groups numbers) over.group) × (down ≡ over.down) × (limit ≡ over.limit)
-IsNamed numbers breach fault = ⊥
 
 -- the fleet of the numbers and lists, its hosts dealt in this order
 abbrev pub dealt_fleet : Numbers → FleetLists → List ℕ → FleetView

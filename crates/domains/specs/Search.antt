@@ -1,27 +1,14 @@
--- What is found first, by the numbers of hosts and groups.
-use Rattle.std.specs.Prelude.{◌≡◌, ℕ, ◌<◌, Bool, false, Option, Some, None, List, length, slice_index_or}
+-- What a search finds, by the numbers of hosts and groups.
+use Rattle.std.specs.Prelude.{◌≡◌, ℕ, ◌+◌, ◌*◌, ◌<◌, ◌&&◌, nat_eq, Bool, false, Option, None, List, length, map, slice_index_or}
+use Rattle.std.specs.List.{list_any}
 use Rattle.fleet_numbers.specs.NumberLists.{list_at}
-use Rattle.fleet_numbers.specs.Chains.{IsNestedChain, IsLeastCrossingPair}
+use Rattle.fleet_numbers.specs.Chains.{IsNestedChain}
 use Rattle.domains.specs.Starts.{exceeds}
 use Rattle.domains.specs.FleetViews.{off_count}
-use Rattle.domains.specs.Ids.{group_lists, host_lists}
-use Rattle.domains.specs.declared.lists.FleetLists.{FleetLists}
-use Rattle.domains.specs.declared.search.Breach.{Breach}
-use Rattle.domains.specs.declared.search.Breach.TheVariants.{Nesting, Start}
-
--- the first host of whose chain two groups cross, with the first such groups
-pub record IsFirstCrossing (subtree_ends : List ℕ) (chains : List (List ℕ)) (host first second : ℕ) : Type 0 where
-  pub within : host < length chains
-  pub least : IsLeastCrossingPair subtree_ends (list_at chains host) first second
-  pub before : (earlier : ℕ) → earlier < host → IsNestedChain subtree_ends (list_at chains earlier)
-
--- the first group of which more hosts are off than its limit, with their number and the limit
-pub record IsFirstOverGroup (members : List (List ℕ)) (limits : List (Option ℕ)) (off : List Bool) (group down limit : ℕ) : Type 0 where
-  pub within : group < length members
-  pub limited : slice_index_or limits group None ≡ Some limit
-  pub counted : down ≡ off_count off (list_at members group)
-  pub over : limit < down
-  pub before : (earlier : ℕ) → earlier < group → exceeds (slice_index_or limits earlier None) (off_count off (list_at members earlier)) ≡ false
+use Rattle.domains.specs.Findings.{each_pair, overs_until}
+use Rattle.domains.specs.declared.finding.Crossing.{Crossing}
+use Rattle.domains.specs.declared.finding.Finding.{Finding}
+use Rattle.domains.specs.declared.finding.Finding.TheVariants.{Nesting}
 
 -- no two groups of a chain cross
 abbrev pub AreChainsNested : List ℕ → List (List ℕ) → Type 0
@@ -32,15 +19,18 @@ abbrev pub AreStartsWithin : List (List ℕ) → List (Option ℕ) → List Bool
 AreStartsWithin members limits off =
     (group : ℕ) → group < length members → exceeds (slice_index_or limits group None) (off_count off (list_at members group)) ≡ false
 
--- no two groups of a chain cross, and no group has more hosts off than its limit
-abbrev pub IsUnbroken : FleetLists → List Bool → Type 0
-IsUnbroken lists off =
-    AreChainsNested lists.subtree_ends.items (group_lists lists.chains.items) × AreStartsWithin (host_lists lists.members.items) lists.limits.items off
+-- the groups of which more hosts are off than their limits
+abbrev pub overs_in : List (List ℕ) → List (Option ℕ) → List Bool → List Finding
+overs_in members limits off =
+    overs_until (λ group. slice_index_or limits group None) (λ group. off_count off (list_at members group)) (length limits)
 
--- how limits nest goes before the start
-abbrev pub IsFirstBreach : FleetLists → List Bool → Breach → Type 0
-IsFirstBreach lists off (Nesting crossing) =
-    IsFirstCrossing lists.subtree_ends.items (group_lists lists.chains.items) crossing.host crossing.first crossing.second
-IsFirstBreach lists off (Start over) =
-    AreChainsNested lists.subtree_ends.items (group_lists lists.chains.items)
-    × IsFirstOverGroup (host_lists lists.members.items) lists.limits.items off over.group over.down over.limit
+-- one of the crossings is of this pair of groups
+abbrev pub has_pair : ℕ → ℕ → List Crossing → Bool
+has_pair first second crossings =
+    list_any (λ (crossing : Crossing). nat_eq first crossing.first && nat_eq second crossing.second) crossings
+
+-- of the crossings that were seen each pair of groups is found once, and has a mark
+pub record AreSeen (groups : ℕ) (seen : List Crossing) (found : List Finding) (marks : List Bool) : Type 0 where
+  pub found_once : found ≡ map Nesting (each_pair seen)
+  pub marked : (first second : ℕ) → first < groups → second < groups
+      → slice_index_or marks (first * groups + second) false ≡ has_pair first second seen

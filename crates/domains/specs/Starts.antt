@@ -1,5 +1,5 @@
 -- How many hosts of a group are off when a run starts, against its limit.
-use Rattle.std.specs.Prelude.{◌≡◌, ℕ, ◌<◌, Bool, false, ◌&&◌, nat_lt, Option, Some, None, List, [], filter, length, option_map, slice_index_or}
+use Rattle.std.specs.Prelude.{◌≡◌, ℕ, Bool, false, ◌&&◌, nat_lt, Option, Some, None, List, [], filter, length, option_map, slice_index_or}
 use Rattle.group_tree.specs.Names.{Name}
 use Rattle.group_tree.specs.Places.{Place, Inventory}
 use Rattle.group_tree.specs.DownLimits.{Limit, allowed}
@@ -37,12 +37,3 @@ starts_over inventory number =
 
 abbrev pub StartsWithin : Inventory → Type 0
 StartsWithin inventory = (number : ℕ) → starts_over inventory number ≡ false
-
--- the first group in preorder that starts over its limit, with how many of its hosts are off
-pub record IsFirstOver (inventory : Inventory) (group : Name) (count limit : ℕ) : Type 0 where
-  pub number : ℕ
-  pub name : (place_at inventory.places number).name ≡ group
-  pub limited : allowed_of inventory (place_at inventory.places number) ≡ Some limit
-  pub counted : count ≡ hosts_off inventory group
-  pub over : limit < count
-  pub first : (earlier : ℕ) → earlier < number → starts_over inventory earlier ≡ false

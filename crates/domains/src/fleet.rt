@@ -1,21 +1,21 @@
 //! A fleet: hosts, groups with their members, and how limits nest.
-ghost use Rattle.std.specs.Prelude.{◌≡◌, ℕ, List, IfOk, IfErr, IsTrue, All, IsPermutation, length};
+ghost use Rattle.std.specs.Prelude.{◌≡◌, ◌≢◌, [], ℕ, List, IfOk, IfErr, IsTrue, All, IsPermutation, length};
 ghost use Rattle.std.specs.List.{range_with_len};
 ghost use Rattle.fleet_numbers.specs.NumberLists.{are_below};
 ghost use Rattle.fleet_numbers.specs.DealOrder.{numbered_bound, IsDealt};
 ghost use Rattle.domains.specs.Ids.{group_lists, host_numbers};
 ghost use Rattle.domains.specs.FleetViews.{IsSound};
 ghost use Rattle.domains.specs.Fleets.{IsFleetOf};
-ghost use Rattle.domains.specs.Faults.{IsFaultOf};
-ghost use Rattle.domains.specs.Outcomes.{IsNamed, dealt_fleet};
+ghost use Rattle.domains.specs.Faults.{IsFaultOf, TellsFirst, all_faults};
+ghost use Rattle.domains.specs.Outcomes.{dealt_fleet};
 
 mod readers;
 
 use crate::fault::FleetFault;
+use crate::faults::{FleetTold, find_all, tell};
+use crate::finding::Finding;
 use crate::lists::{FleetLists, make_lists};
-use crate::names::name_at;
 use crate::numbers::{Numbers, number_tree};
-use crate::search::{Breach, find_breach};
 use fleet_numbers::{list_deal_order, list_deal_places};
 use group_tree::{GroupId, HostId, Tree};
 use indexmap::IndexSet;
@@ -54,40 +54,43 @@ impl Model for Fleet {
 
 impl Fleet {
     /// Numbers the hosts and groups of a tree and tests how its limits nest and what is down at the start. The first rule
-    /// that is broken refuses it, in the order of `FleetFault`; otherwise only want of memory does.
+    /// that is broken refuses it, in the order of `build_or_tell`; otherwise only want of memory does.
     pub fn build<A: Allocator>(alloc: Global, tree: &Tree<A>) -> Result<Fleet, FleetFault>
         ensures ok { IfOk result (IsFleetOf tree.now) }
         ensures err { IfErr result (IsFaultOf tree.now) }
     {
-        let numbers = number_tree(alloc, tree)?;
-        if numbers.hosts.len() > HOSTS_BOUND {
-            return Err(FleetFault::TooManyHosts);
-        }
-        let lists = make_lists(alloc, &numbers)?;
-        match find_breach(&lists, numbers.off.as_slice()) {
-            Some(breach) => Err(name_breach(alloc, &numbers, breach)?),
-            None => Ok(deal(alloc, numbers, lists)?),
+        match Fleet::build_or_tell(alloc, tree, 1)? {
+            Ok(fleet) => Ok(fleet),
+            Err(mut told) => Err(told.faults.swap_remove(0)),
         }
     }
-}
 
-/// The fault that tells the breach by the names of its host and groups.
-fn name_breach(alloc: Global, numbers: &Numbers, breach: Breach) -> Result<FleetFault, AllocError>
-    ensures { IfOk result (IsNamed numbers.now breach) }
-{
-    let hosts = numbers.hosts.as_slice();
-    let groups = numbers.groups.as_slice();
-    match breach {
-        Breach::Nesting(crossing) => Ok(FleetFault::NotNested {
-            host: name_at(alloc, hosts, crossing.host)?,
-            first: name_at(alloc, groups, crossing.first)?,
-            second: name_at(alloc, groups, crossing.second)?,
-        }),
-        Breach::Start(over) => Ok(FleetFault::StartOver {
-            group: name_at(alloc, groups, over.group)?,
-            down: over.down,
-            limit: over.limit,
-        }),
+    /// The fleet of a tree, or the faults that keep it from being one, at most `most` of them, and how many more there are.
+    /// Where there are too many hosts, that alone; else each pair of limited groups that share a host and of which neither
+    /// contains the other, with the first such host by name, in the order of these hosts; where there is none, each group of
+    /// which more hosts are down than its limit, in preorder. It fails for want of memory alone.
+    pub fn build_or_tell<A: Allocator>(
+        alloc: Global,
+        tree: &Tree<A>,
+        most: usize,
+    ) -> Result<Result<Fleet, FleetTold>, AllocError>
+        ensures fleet { IfOk result (λ outcome. IfOk outcome (λ fleet. IsFleetOf tree.now fleet × (all_faults tree.now ≡ []))) }
+        ensures told { IfOk result (λ outcome. IfErr outcome (λ told. TellsFirst most (all_faults tree.now) told × (all_faults tree.now ≢ []))) }
+    {
+        let numbers = number_tree(alloc, tree)?;
+        if numbers.hosts.len() > HOSTS_BOUND {
+            let found = vec![in alloc; Finding::Hosts]?;
+            let told = tell(alloc, &numbers, found, most)?;
+            return Ok(Err(told));
+        }
+        let lists = make_lists(alloc, &numbers)?;
+        let found = find_all(alloc, &numbers, &lists)?;
+        if found.is_empty() {
+            let fleet = deal(alloc, numbers, lists)?;
+            return Ok(Ok(fleet));
+        }
+        let told = tell(alloc, &numbers, found, most)?;
+        Ok(Err(told))
     }
 }
 

@@ -1,25 +1,25 @@
 -- What keeps an inventory from being a fleet.
-use Rattle.std.specs.Prelude.{◌≡◌, ℕ, Bool, true, false, Option, None, Some, List}
+use Rattle.std.specs.Prelude.{◌≡◌, ◌≢◌, ℕ, Bool, true, false, Option, None, Some, List, []}
 use Rattle.group_tree.specs.Places.{Inventory}
 use Rattle.inventory_read.specs.Reads.{IsReadAs}
 use Rattle.inventory_read.specs.ToldFaults as inventories
 use Rattle.inventory_read.specs.declared.told.Told.{Told}
 use Rattle.domains.specs.FleetViews.{FleetView}
 use Rattle.domains.specs.Fleets.{IsFleetOf}
-use Rattle.fleet_faults.specs.ToldFaults.{AreToldOf}
-use Rattle.fleet_faults.specs.declared.told.FleetTold.{FleetTold}
-use Rattle.every_fault.specs.Unread.{is_silent, IsNoFleet}
+use Rattle.domains.specs.Faults.{TellsFirst, all_faults}
+use Rattle.domains.specs.declared.faults.FleetTold.{FleetTold}
+use Rattle.every_fault.specs.Unread.{is_silent}
 
--- the fleet is that of the inventory; there is none if the inventory is none
+-- the fleet is that of the inventory; there is none if something keeps the inventory from being one
 abbrev pub IsFleetIf : Inventory → Option FleetView → Type 0
-IsFleetIf says None = IsNoFleet says
+IsFleetIf says None = all_faults says ≢ []
 IsFleetIf says (Some fleet) = IsFleetOf says fleet
 
 -- what keeps the inventory that the text describes from being a fleet, and the fleet if nothing does
 pub record IsBuilt (text : List ℕ) (most : ℕ) (told : FleetTold) (fleet : Option FleetView) : Type 0 where
   pub says : Inventory
   pub reads : IsReadAs text says
-  pub told_are : AreToldOf says most told
+  pub told_are : TellsFirst most (all_faults says) told
   pub built : IsFleetIf says fleet
 
 -- of a text without faults; of one with faults there is neither

@@ -7,7 +7,7 @@ ghost use Rattle.every_fault.specs.Playbooks.{IsPlaybookPart};
 use crate::fleet::inventory_part;
 use crate::patterns::pattern_part;
 use crate::silence::{is_silent, no_playbook_faults};
-use fleet_faults::FleetTold;
+use domains::FleetTold;
 use playbook_faults::{PatternsTold, playbook_faults};
 use std::alloc::{AllocError, Global};
 

@@ -1,12 +1,11 @@
 //! The faults of an inventory, what keeps it from being a fleet, and the fleet.
 ghost use Rattle.std.specs.Prelude.{◌≡◌, [], IfOk, option_map};
-ghost use Rattle.fleet_faults.specs.ToldFaults.{AreToldOf};
+ghost use Rattle.domains.specs.Faults.{TellsFirst, all_faults};
 ghost use Rattle.every_fault.specs.Inventories.{IsFleetIf, IsInventoryPart};
 
 use crate::silence::{no_fleet_faults, no_inventory_faults};
 use bumpalo::Bump;
-use domains::Fleet;
-use fleet_faults::{FleetTold, fleet_faults};
+use domains::{Fleet, FleetTold};
 use group_tree::Tree;
 use inventory_read::{Told, inventory_or_faults};
 use std::alloc::{AllocError, Allocator, Global};
@@ -33,17 +32,13 @@ fn tree_part<A: Allocator>(
     tree: &Tree<A>,
     most: usize,
 ) -> Result<(Told, FleetTold, Option<Fleet>), AllocError>
-    ensures { IfOk result (λ part. (part.0.faults.items ≡ []) × (part.0.more ≡ 0) × AreToldOf tree.now most part.1
+    ensures { IfOk result (λ part. (part.0.faults.items ≡ []) × (part.0.more ≡ 0) × TellsFirst most (all_faults tree.now) part.1
         × IsFleetIf tree.now (option_map (λ fleet. fleet) part.2)) }
 {
-    let told = match fleet_faults(alloc, tree, most) {
-        Ok(told) => told,
-        Err(refused) => return Err(refused),
-    };
     let none = no_inventory_faults(alloc);
-    match Fleet::build(alloc, tree) {
-        Ok(fleet) => Ok((none, told, Some(fleet))),
-        Err(fault) if fault.number().is_some() => Ok((none, told, None)),
-        Err(_) => Err(AllocError),
+    match Fleet::build_or_tell(alloc, tree, most) {
+        Ok(Ok(fleet)) => Ok((none, no_fleet_faults(alloc), Some(fleet))),
+        Ok(Err(told)) => Ok((none, told, None)),
+        Err(refused) => Err(refused),
     }
 }

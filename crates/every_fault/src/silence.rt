@@ -2,7 +2,7 @@
 ghost use Rattle.std.specs.Prelude.{◌≡◌, [], true};
 ghost use Rattle.every_fault.specs.Unread.{is_silent};
 
-use fleet_faults::FleetTold;
+use domains::FleetTold;
 use playbook_faults::{PatternsTold, Told};
 use std::alloc::Global;
 
@@ -24,7 +24,9 @@ pub(crate) fn no_inventory_faults(alloc: Global) -> inventory_read::Told
 }
 
 pub(crate) fn no_fleet_faults(alloc: Global) -> FleetTold
-    ensures { is_silent result.faults.items result.more ≡ true }
+    ensures silent { is_silent result.faults.items result.more ≡ true }
+    ensures faults { result.faults.items ≡ [] }
+    ensures more { result.more ≡ 0 }
 {
     FleetTold {
         faults: Vec::new(alloc),

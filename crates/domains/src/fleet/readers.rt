@@ -8,7 +8,7 @@ ghost use Rattle.domains.specs.Ids.{host_numbers, group_numbers};
 ghost use Rattle.domains.specs.FleetViews.{AreAmong, IsSound, down_at_start, off_count};
 
 use crate::fleet::Fleet;
-use crate::search::count_off;
+use crate::starts::count_off;
 use fleet_numbers::find_name;
 use group_tree::{GroupId, HostId};
 

@@ -2,7 +2,7 @@ use Rattle.std.proofs.Common.{◌≡◌, ◌∙◌, ◌||◌, ◌+◌, ◌<◌, 
 use Rattle.std.proofs.lemmas.List.{get_or-map, length-map, take-map, take_all}
 use Rattle.group_tree.specs.Names.{Name, same_name, is_among}
 use Rattle.domains.specs.declared.rows.HostRow.{HostRow}
-use Rattle.domains.proofs.ListedLemmas.{among_more}
+use Rattle.std.proofs.lemmas.List.Folds.{list_any_more}
 use Rattle.domains.proofs.names.names_of.Goals as goal
 
 pub loop-row-preserved : goal.loop-row-preserved
@@ -17,7 +17,7 @@ loop-row-preserved g c = λ other.
     c.in_ok-near.ensures other
     ∙ ap (λ b. b || same_name other c.name.result.now) (c.loop-row.invariant other ∙ sym (ap (is_among other) (take-map name_of i rows)))
     ∙ ap (λ (n : Name). is_among other (take i names) || same_name other n) own
-    ∙ sym (among_more names i other within)
+    ∙ sym (list_any_more (same_name other) names i [] within)
     ∙ ap (is_among other) (take-map name_of (i + 1) rows)
 
 pub returns : goal.returns

@@ -1,0 +1,14 @@
+use Rattle.std.proofs.Common.{◌≡◌, ◌*◌, ◌++◌, List, length, take}
+use Rattle.fleet_numbers.specs.Chains.{ends_before}
+use Rattle.domains.specs.Findings.{crossings_with}
+use Rattle.domains.specs.Ids.{group_numbers}
+use Rattle.domains.specs.Search.{AreSeen}
+use Rattle.domains.specs.declared.finding.Crossing.{Crossing}
+use Rattle.domains.proofs.crossings.Crossings.add_with.Given as goal
+
+abbrev pub invariant-loop-second : goal.invariant-loop-second
+invariant-loop-second l = record {
+  sized : length l.self.marks.items ≡ length l.ends * length l.ends;
+  seen : (seen : List Crossing) → AreSeen (length l.ends) seen l.initial.self.found.items l.initial.self.marks.items
+      → AreSeen (length l.ends) (seen ++ crossings_with (ends_before l.ends) l.host (group_numbers (take l.second-index l.chain)) l.first) l.self.found.items l.self.marks.items;
+}

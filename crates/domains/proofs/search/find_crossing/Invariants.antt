@@ -1,8 +1,0 @@
-use Rattle.std.proofs.Common.{ℕ, ◌<◌}
-use Rattle.fleet_numbers.specs.NumberLists.{list_at}
-use Rattle.domains.specs.Ids.{group_lists}
-use Rattle.fleet_numbers.specs.Chains.{IsNestedChain}
-use Rattle.domains.proofs.search.find_crossing.Given as goal
-
-abbrev pub invariant-loop-host : goal.invariant-loop-host
-invariant-loop-host l = (earlier : ℕ) → earlier < l.host → IsNestedChain l.subtree_ends (list_at (group_lists l.chains) earlier)
