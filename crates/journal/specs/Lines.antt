@@ -1,6 +1,6 @@
 -- Lines that tell whether they are whole.
-use Rattle.std.specs.Prelude.{◌≡◌, ◌⊎◌, ℕ, ◌+◌, ◌*◌, Bool, ◌==◌, List, [], ◌∷◌, ◌++◌, codes, decimal, length, false}
-use Rattle.std.specs.List.{list_any}
+use Rattle.std.specs.Prelude.{◌≡◌, ◌⊎◌, ℕ, ◌+◌, ◌*◌, Bool, ◌==◌, List, [], ◌∷◌, ◌++◌, codes, decimal, length, false, not, take}
+use Rattle.std.specs.List.{list_any, prefix_len}
 
 -- the most bytes of a line's body
 abbrev pub max_body : ℕ
@@ -34,6 +34,10 @@ line_text body = line_of body ++ codes "\n"
 pub record IsCut (bytes front behind : List ℕ) : Type 0 where
   pub feedless : HasNoFeed front
   pub parts : bytes ≡ front ++ 10 ∷ behind
+
+-- the first line with its line feed; all bytes, if there is none
+abbrev pub first_line_of : List ℕ → List ℕ
+first_line_of bytes = take (prefix_len (λ byte. not (is_feed byte)) bytes + 1) bytes
 
 -- the bytes are lines, each with its line feed
 abbrev pub AreLines : List ℕ → Type 0

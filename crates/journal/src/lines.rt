@@ -1,5 +1,5 @@
 //! Lines and words as bytes.
-ghost use Rattle.std.specs.Prelude.{◌≡◌, ◌<◌, ◌∷◌, ◌++◌, [], IfSome, MatchOption, length, not, option_map, take};
+ghost use Rattle.std.specs.Prelude.{◌≡◌, ◌<◌, ◌∷◌, ◌++◌, [], IfSome, MatchOption, length, not, option_map};
 ghost use Rattle.std.specs.Option.{option_map_or};
 ghost use Rattle.std.specs.List.{after_first, before_first, prefix_len, slice_split};
 ghost use Rattle.journal.specs.Lines as spec;
@@ -21,7 +21,7 @@ pub(crate) fn cut_line(bytes: &[u8]) -> Option<(&[u8], &[u8])>
 
 /// The first line with its line feed; all bytes where none has one.
 pub fn first_line(bytes: &[u8]) -> &[u8]
-    ensures { result.now ≡ take (length result.now) bytes.now }
+    ensures { result.now ≡ spec.first_line_of bytes.now }
 {
     let end = count_line(bytes);
     if end < bytes.len() {

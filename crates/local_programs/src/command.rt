@@ -1,16 +1,14 @@
 //! Words as a command.
-ghost use Rattle.std.specs.Prelude.{◌≡◌, [], ◌∷◌, IfOk, IfSome, List, ℕ, None, false, map, string_bytes};
-ghost use Rattle.std.specs.Process.{clears_env, command_args, command_dir, command_program, command_var};
+ghost use Rattle.std.specs.Prelude.{IfOk, IfSome, map, string_bytes};
+ghost use Rattle.local_programs.specs.Starts.{IsHere};
 
 use std::alloc::{AllocError, Global};
-use std::process::Command;
+use std::process::{Command, Stdio};
 
-/// The first word with the others as its arguments, in this program's folder and environment; none where there is no word.
+/// The first word with the others as its arguments, in this program's folder and environment, with nothing to read and both outputs to this
+/// program; none where there is no word.
 pub(crate) fn command_of(alloc: Global, words: &[String]) -> Result<Option<Command>, AllocError>
-    ensures words { IfOk result (λ made. IfSome made (λ command. map string_bytes words.now ≡ command_program command ∷ command_args command)) }
-    ensures folder { IfOk result (λ made. IfSome made (λ command. command_dir command ≡ None)) }
-    ensures inherits { IfOk result (λ made. IfSome made (λ command. clears_env command ≡ false)) }
-    ensures vars { IfOk result (λ made. IfSome made (λ command. (name : List ℕ) → command_var command name ≡ None)) }
+    ensures { IfOk result (λ made. IfSome made (λ command. IsHere command (map string_bytes words.now))) }
 {
     let Some((program, arguments)) = words.split_first() else {
         return Ok(None);
@@ -19,5 +17,8 @@ pub(crate) fn command_of(alloc: Global, words: &[String]) -> Result<Option<Comma
     for argument in arguments {
         command.arg(argument.as_str())?;
     }
+    command.stdin(Stdio::null());
+    command.stdout(Stdio::piped());
+    command.stderr(Stdio::piped());
     Ok(Some(command))
 }

@@ -7,6 +7,7 @@ mod descriptors;
 mod ending;
 mod gate;
 mod kept;
+mod launch;
 mod limits;
 mod notes;
 mod output;
@@ -20,6 +21,7 @@ mod worker_count;
 
 pub use clock::{milliseconds, milliseconds_since};
 pub use descriptors::occupy_standard;
+pub use launch::{Launch, Pending, System};
 pub use notes::{Note, Notes};
 pub use remark::Remark;
 pub use running::LocalPrograms;

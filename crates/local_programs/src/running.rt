@@ -3,11 +3,12 @@ ghost use Rattle.std.specs.Prelude.{◌≡◌, IfOk, true};
 ghost use Rattle.host_track.specs.Endings.{ending_of};
 ghost use Rattle.roll_core.specs.Leaves.{IsGoOf};
 ghost use Rattle.event_log.specs.Rolls.{is_of_program};
-ghost use Rattle.local_programs.specs.Ends.{IsLocalEnd};
+ghost use Rattle.local_programs.specs.Starts.{MayEndHere};
 
 use crate::clock::{milliseconds, milliseconds_since};
 use crate::ending::outcome_of;
 use crate::gate::Gate;
+use crate::launch::{Launch, Pending};
 use crate::notes::{Note, Notes};
 use crate::outputs::read_both;
 use crate::remark::{Remark, refusal_of, remark_of};
@@ -19,25 +20,27 @@ use std::sync::Wait;
 use std::thread::Threads;
 
 /// Runs each program on this machine: the first word with the others as its arguments and no shell, in this program's folder and environment,
-/// with nothing to read, and no more of them at once than this process may have descriptors for. What it may tell is every end of a program.
-/// It leaves a note of each.
+/// with nothing to read, and no more of them at once than this process may have descriptors for. What it may tell of a program is an end that one
+/// has here, and that it ran only if it was started with the words of its step. It leaves a note of each.
 #[derive(Drop)]
-pub struct LocalPrograms<'a> {
+pub struct LocalPrograms<'a, L: Launch + Sync> {
+    launch: L,
     notes: &'a Notes,
     gate: Gate,
 }
 
-impl<'a> LocalPrograms<'a> {
-    pub fn new(notes: &'a Notes) -> LocalPrograms<'a> {
+impl<'a, L: Launch + Sync> LocalPrograms<'a, L> {
+    pub fn new(launch: L, notes: &'a Notes) -> LocalPrograms<'a, L> {
         LocalPrograms {
+            launch,
             notes,
             gate: Gate::new(),
         }
     }
 }
 
-impl Runner for LocalPrograms<'_> {
-    ghost may = { λ runner work ending. Unit {0} };
+impl<L: Launch + Sync> Runner for LocalPrograms<'_, L> {
+    ghost may = { λ runner work ending. MayEndHere L.is_started L.has_ended work.words ending };
 
     ghost alike = { λ one other. Unit {0} };
 
@@ -50,15 +53,14 @@ impl Runner for LocalPrograms<'_> {
     ) -> Result<Outcome, AllocError>
         requires { IsGoOf go job.now }
         ensures program { IfOk result (λ outcome. is_of_program (ending_of outcome) ≡ true) }
-        ensures allowed { IfOk result (λ _. Unit {0}) }
-        ensures local { IfOk result (λ outcome. IsLocalEnd (ending_of outcome)) }
+        ensures allowed { IfOk result (λ outcome. MayEndHere L.is_started L.has_ended job.now.words (ending_of outcome)) }
     {
         if self.gate.is_full(rt) {
             self.notes.gate_is_full(rt, self.gate.bounds());
         }
         self.gate.enter(rt);
         let begin = milliseconds();
-        let ended = run_program(rt, alloc, &self.gate, go, job)?;
+        let ended = run_program(&self.launch, rt, alloc, &self.gate, go, job)?;
         let note = Note {
             remark: ended.1,
             milliseconds: milliseconds_since(begin),
@@ -77,7 +79,8 @@ impl Runner for LocalPrograms<'_> {
 }
 
 /// Starts the program of the job where the gate let it in, and sees it to its end; then it leaves.
-fn run_program<H: Wait + Processes<Started = SystemProcess>>(
+fn run_program<L: Launch, H: Wait>(
+    launch: &L,
     rt: &H,
     alloc: Global,
     gate: &Gate,
@@ -86,12 +89,12 @@ fn run_program<H: Wait + Processes<Started = SystemProcess>>(
 ) -> Result<(Outcome, Remark), AllocError>
     requires { IsGoOf go job.now }
     ensures program { IfOk result (λ ended. is_of_program (ending_of ended.0) ≡ true) }
-    ensures local { IfOk result (λ ended. IsLocalEnd (ending_of ended.0)) }
+    ensures allowed { IfOk result (λ ended. MayEndHere L.is_started L.has_ended job.now.words (ending_of ended.0)) }
 {
-    match start(rt, alloc, gate, go, job) {
-        Ok(Started::Running(child)) => {
+    match start(launch, rt, alloc, gate, go, job) {
+        Ok(Started::Running(child, pending)) => {
             gate.starts(rt);
-            let ended = see_to_its_end(rt, alloc, child);
+            let ended = see_to_its_end(launch, rt, alloc, child, pending, job);
             gate.leave(rt, true);
             ended
         }
@@ -107,17 +110,22 @@ fn run_program<H: Wait + Processes<Started = SystemProcess>>(
 }
 
 /// Reads the outputs of a program that was started, and waits for its end.
-fn see_to_its_end<H: Wait>(
+fn see_to_its_end<L: Launch, H: Wait>(
+    launch: &L,
     rt: &H,
     alloc: Global,
     mut child: Child,
+    pending: Pending,
+    job: &Job,
 ) -> Result<(Outcome, Remark), AllocError>
+    requires started { L.is_started job.now.words }
+    requires pending { L.is_pending pending job.now.words }
     ensures program { IfOk result (λ ended. is_of_program (ending_of ended.0) ≡ true) }
-    ensures local { IfOk result (λ ended. IsLocalEnd (ending_of ended.0)) }
+    ensures allowed { IfOk result (λ ended. MayEndHere L.is_started L.has_ended job.now.words (ending_of ended.0)) }
 {
     let (stdout, stderr) = (child.stdout.take(), child.stderr.take());
     let read = read_both(rt, alloc, &mut child, stdout, stderr);
-    let waited = child.wait();
+    let waited = launch.wait(pending, child);
     let outcome = outcome_of(alloc, read, &waited)?;
     let remark = match outcome {
         Outcome::Ran { .. } => remark_of(&waited),

@@ -1,14 +1,17 @@
 //! Starting a program.
+ghost use Rattle.std.specs.Prelude.{IfOk, map, string_bytes};
 ghost use Rattle.roll_core.specs.Leaves.{IsGoOf};
+ghost use Rattle.local_programs.specs.Starts.{IfRunning};
 
 use crate::clock::wait;
 use crate::command::command_of;
 use crate::gate::Gate;
+use crate::launch::{Launch, Pending};
 use roll_core::{Go, Job};
 use std::alloc::{AllocError, Global};
 use std::io;
 use std::io::ErrorKind;
-use std::process::{Child, Command, Processes, Stdio, SystemProcess};
+use std::process::Child;
 use std::sync::Wait;
 
 /// Milliseconds between two tries.
@@ -17,16 +20,24 @@ const PAUSE: i32 = 10;
 /// The system has as many open files as it takes.
 const ENFILE: i32 = 23;
 
-/// A program that was started, or why it wasn't: what the system said, where it was asked.
+/// A program that was started, with what stands for it; or why it wasn't: what the system said, if it was asked.
 #[derive(Drop)]
 pub(crate) enum Started {
-    Running(Child),
+    Running(Child, Pending),
     Refused(Option<io::Error>),
 }
 
-/// Starts the program of the job, with nothing to read and both outputs to this program. Nothing else starts a program, and the leave for
-/// this one is used up here.
-pub(crate) fn start<H: Wait + Processes<Started = SystemProcess>>(
+/// A start that may be tried again with the leave.
+#[derive(Drop)]
+struct Refusal {
+    go: Go,
+    error: Option<io::Error>,
+}
+
+/// Starts the program of the job, and uses up the leave for that. Where the system is short of descriptors or processes, that says nothing of
+/// the program: it is tried again while another one of the run is under way, and for some seconds where none is.
+pub(crate) fn start<L: Launch, H: Wait>(
+    launch: &L,
     rt: &H,
     alloc: Global,
     gate: &Gate,
@@ -34,41 +45,50 @@ pub(crate) fn start<H: Wait + Processes<Started = SystemProcess>>(
     job: &Job,
 ) -> Result<Started, AllocError>
     requires { IsGoOf go job.now }
+    ensures started { IfOk result (λ started. IfRunning started (λ _. L.is_started job.now.words)) }
+    ensures pending { IfOk result (λ started. IfRunning started (λ pending. L.is_pending pending job.now.words)) }
 {
-    drop(go);
-    let Some(mut command) = command_of(alloc, job.words())? else {
-        return Ok(Started::Refused(None));
-    };
-    command.stdin(Stdio::null());
-    command.stdout(Stdio::piped());
-    command.stderr(Stdio::piped());
-    spawn(rt, gate, &mut command)
-}
-
-/// Starts the program. Where the system is short of descriptors or processes, that says nothing of the program: it is tried again while
-/// another one of the run is under way, and for some seconds where none is.
-fn spawn<H: Wait + Processes<Started = SystemProcess>>(
-    rt: &H,
-    gate: &Gate,
-    command: &mut Command,
-) -> Result<Started, AllocError> {
-    let mut tried = command.spawn(rt);
+    let mut tried = start_once(launch, alloc, go, job.words())?;
     for _ in rt.forever() {
-        match tried {
-            Ok(child) => return Ok(Started::Running(child)),
-            Err(error) if error.kind() == ErrorKind::OutOfMemory => return Err(AllocError),
-            Err(error) if !is_short(&error) || !gate.is_worth_a_try(rt) => {
-                return Ok(Started::Refused(Some(error)));
-            }
-            Err(_short) => {}
+        let Refusal { go, error } = match tried {
+            Ok((child, pending)) => return Ok(Started::Running(child, pending)),
+            Err(refusal) => refusal,
+        };
+        match error {
+            Some(error) if error.kind() == ErrorKind::OutOfMemory => return Err(AllocError),
+            Some(error) if is_short(&error) && gate.is_worth_a_try(rt) => {}
+            error => return Ok(Started::Refused(error)),
         }
         wait(PAUSE);
         // Those who try again would take from one another what each needs for its start.
         let alone = gate.try_alone(rt);
-        tried = command.spawn(rt);
+        let again = start_once(launch, alloc, go, job.words());
         drop(alone);
+        tried = again?;
     }
     unreachable!()
+}
+
+/// Tries to start the program of these words.
+fn start_once<L: Launch>(
+    launch: &L,
+    alloc: Global,
+    go: Go,
+    words: &[String],
+) -> Result<Result<(Child, Pending), Refusal>, AllocError>
+    ensures started { IfOk result (λ tried. IfOk tried (λ _. L.is_started (map string_bytes words.now))) }
+    ensures pending { IfOk result (λ tried. IfOk tried (λ started. L.is_pending started.1 (map string_bytes words.now))) }
+{
+    let Some(command) = command_of(alloc, words)? else {
+        return Ok(Err(Refusal { go, error: None }));
+    };
+    match launch.launch(go, command) {
+        Ok(started) => Ok(Ok(started)),
+        Err((go, error)) => {
+            let error = Some(error);
+            Ok(Err(Refusal { go, error }))
+        }
+    }
 }
 
 /// Whether the system is short of what a start takes.

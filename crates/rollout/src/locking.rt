@@ -1,6 +1,6 @@
 //! The locks of a run: two runs that know nothing of each other would together take more hosts down than a group may lose.
 ghost use Rattle.std.specs.Prelude.{◌≡◌, IfErr, IfOk, None, is_some, true};
-ghost use Rattle.rollout.specs.Locks.{IsGiven, IsRead, IsReadFrom};
+ghost use Rattle.rollout.specs.Locks.{IfFile, IsGiven, IsRead, IsReadFrom};
 ghost use Rattle.rollout.specs.Rolls.{IsRefusedBy, IsUnlockable};
 
 use crate::fault::Fault;
@@ -54,6 +54,7 @@ pub(crate) fn hold_lock<S: System, T: Watch>(
     locking: Locking<'_>,
 ) -> Result<Held<S::Lock>, Fault>
     ensures ok { IfOk result (λ held. IsGiven (S.known system.now).files inventory.now held.given) }
+    ensures locked { IfOk result (λ held. IfFile locking.entry (is_some held.lock ≡ true)) }
     ensures err { IfErr result (IsRefusedBy (S.known system.now)) }
 {
     match locking {
@@ -122,7 +123,7 @@ fn without_lock<L, T: Watch>(watch: &mut T) -> Held<L>
 
 /// Takes the lock of a file of its own, which has to be had.
 fn hold_made<S: System>(system: &S, alloc: Global, name: &str) -> Result<Held<S::Lock>, Fault>
-    ensures ok { IfOk result (λ held. held.given ≡ Given.Nothing) }
+    ensures ok { IfOk result (λ held. (held.given ≡ Given.Nothing) × (is_some held.lock ≡ true)) }
     ensures err { IfErr result (IsRefusedBy (S.known system.now)) }
 {
     match system.lock_made(name) {

@@ -33,7 +33,7 @@ use crate::awaited::tell_what_is_awaited;
 use crate::program::run;
 use crate::system::Host;
 use bounded_io::Fallible;
-use local_programs::{LocalPrograms, Notes, occupy_standard};
+use local_programs::{LocalPrograms, Notes, System, occupy_standard};
 use roll_core::History;
 use std::io;
 use std::io::{IsTerminal, Stderr, Stdin, Stdout};
@@ -45,7 +45,7 @@ fn main(rt: HostRuntime) -> ExitCode {
     let errors = rt.stderr();
     tell_what_is_awaited(&rt, rt.stdin(), errors);
     let notes = Notes::new(rt.alloc());
-    let programs = LocalPrograms::new(&notes);
+    let programs = LocalPrograms::new(System::new(&rt), &notes);
     let mut teller = Teller::new(&rt, rt.alloc(), &notes, io::writer(&errors));
     let prompts = prompts_of(rt.stdin(), rt.stdout(), errors);
     let (code, _history) = run(

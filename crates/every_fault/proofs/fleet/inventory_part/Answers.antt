@@ -1,4 +1,4 @@
-use Rattle.std.proofs.Common.{◌≡◌, ℕ, List, [], map, inr, refl, sym, ap, subst}
+use Rattle.std.proofs.Common.{◌≡◌, ℕ, List, [], None, map, inr, refl, sym, ap, subst}
 use Rattle.std.proofs.lemmas.Result.{IfOk-weaker}
 use Rattle.group_tree.specs.Places.{Inventory}
 use Rattle.inventory_read.specs.Faults.{breach_of}
@@ -37,5 +37,5 @@ returns-in-Ok-Err c =
     let are : AreFaultsOf text c.args.most told = rw c.in-Ok-Err.field-0-is at c.in-Ok-Err.ensures in
     record {
       of_inventory = are.are_told;
-      of_fleet = subst (λ silent. IsFleetPart text c.args.most silent c.no_fleet_faults.result _) (sym are.some) (c.no_fleet_faults.ensures.silent, refl);
+      of_fleet = subst (λ silent. IsFleetPart text c.args.most silent c.no_fleet_faults.result None) (sym are.some) (c.no_fleet_faults.ensures.silent, refl);
     }
