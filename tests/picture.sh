@@ -88,5 +88,17 @@ for of in "$racks" '{"all":{"hosts":{"a":null}}}'; do
 done
 [ "$(sed -n 1p "$work/sizes")" -gt "$(sed -n 4p "$work/sizes")" ] && cmp -s "$work/over.svg" "$work/alone.svg" && pass || fail "a picture over a longer one: $(tr '\n' ' ' <"$work/sizes") bytes"
 
+# A file that the command reads is never written over, whatever name leads to it.
+printf '%s' "$racks" >"$work/inventory.json"
+ln -s inventory.json "$work/link.json"
+ln "$work/playbook.json" "$work/hard.json"
+cp "$work/inventory.json" "$work/inventory.before"
+cp "$work/playbook.json" "$work/playbook.before"
+for name in inventory.json ./inventory.json link.json playbook.json hard.json; do
+    run plan "$work/inventory.json" "$work/playbook.json" --picture "$work/$name"
+    check "a picture in place of an input, $name" 1 '' "rollout: 919 OutputIsInput name=$work/$name$newline"
+    cmp -s "$work/inventory.json" "$work/inventory.before" && cmp -s "$work/playbook.json" "$work/playbook.before" && pass || fail "an input is written over by $name"
+done
+
 counting python3 "$top/tests/slow/pictured.py" "$rollout" 7 "${PICTURES:-100}"
 finish
