@@ -16,6 +16,7 @@ WORDS_THERE = {("docs/PROVED.md", "running")}
 # What no rule finds.
 FIXES = [
     ("tests/house/explained.py", "r'Kind::\\w+ =>", "r'LintRule::\\w+ =>"),
+    ("docs/DECISIONS.md", "has a type in each layer**: `Asked`, `Given`, `Taken`, ", "has a type in each layer**: `StepRequest`, `WorkItem`, `Assignment`, "),
     ("docs/DECISIONS.md", "| `Rehearsal` | `rehearse`, not `rehearse` | | beside its command |\n", ""),
 ]
 
