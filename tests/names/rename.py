@@ -11,7 +11,8 @@ with the kinds crate, module, type, function, spec-module, definition; and `left
 
 How an occurrence is known: by its path or by an import of its file first, and else by its crate, where only one meaning of the word is visible. The names that the prover
 makes (`c.tell_keys.ensures`, `returns-then-is_empty-clause-cut`, `Rattle.CRATE.proofs.MODULE.FUNCTION.Goals`) follow the functions and modules. Where a new name stands in a
-crate already, or an occurrence can't be told, the script says so, and ends with 1 before it writes anything. Strings of the program stay as they are.
+crate already, or an occurrence can't be told, the script says so, and ends with 1 before it writes anything. Rows of what the tree doesn't have are skipped, and listed. Strings
+of the program stay as they are. Behind the names each crate is laid out by `rt fmt`, and edits whose text the new layout broke are cut to what they change.
 """
 import argparse
 import collections
@@ -133,7 +134,7 @@ class Table:
     """The rows of the table, by kind."""
 
     def __init__(self, path, tree):
-        self.rows, self.left = [], []
+        self.rows, self.left, self.skipped = [], [], []
         self.crates, self.modules, self.spec_modules = {}, collections.defaultdict(dict), collections.defaultdict(dict)
         self.names = collections.defaultdict(dict)
         self.kinds = {}
@@ -145,6 +146,9 @@ class Table:
                 if kind == "left":
                     self.left.append((crate, old, new))
                     continue
+                if not self.applies(tree, kind, crate, old):
+                    self.skipped.append((kind, crate, old, new))
+                    continue
                 self.rows.append((kind, crate, old, new))
                 if kind == "crate":
                     self.crates[old] = new
@@ -155,6 +159,22 @@ class Table:
                 else:
                     self.names[crate][old] = new
                     self.kinds.setdefault((crate, old), kind)
+        self.see(tree)
+
+    @staticmethod
+    def applies(tree, kind, crate, old):
+        """Whether the tree has what a row renames; later it may stand in another crate, or be gone."""
+        if crate not in tree.deps:
+            return False
+        if kind == "crate":
+            return True
+        if kind == "module":
+            return tuple(old.split("::")) in tree.modules[crate]
+        if kind == "spec-module":
+            return any(f"crates/{crate}/{area}/{old}.antt" in tree.texts for area in ("specs", "proofs"))
+        return bool(tree.defined[crate][old])
+
+    def see(self, tree):
         # Where a word may be renamed without an import: in its crate, and in those above it that see it and have no other of the name.
         self.scope = collections.defaultdict(dict)
         self.unsure = collections.defaultdict(set)

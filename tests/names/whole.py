@@ -17,6 +17,7 @@ WORDS_THERE = {("docs/PROVED.md", "running")}
 FIXES = [
     ("tests/house/explained.py", "r'Kind::\\w+ =>", "r'LintRule::\\w+ =>"),
     ("docs/DECISIONS.md", "has a type in each layer**: `Asked`, `Given`, `Taken`, ", "has a type in each layer**: `StepRequest`, `WorkItem`, `Assignment`, "),
+    ("docs/PROVED.md", "`all_faults` in `crates/all_faults/", "`list_all_faults` in `crates/all_faults/"),
     ("docs/DECISIONS.md", "| `Rehearsal` | `rehearse`, not `rehearse` | | beside its command |\n", ""),
 ]
 
@@ -45,6 +46,8 @@ def rename_tree(tree, table, renaming, asked):
         if to != path:
             moved[path] = to
     problems = sorted(set(renaming.problems)) + collisions(tree, table)
+    for kind, crate, old, new in table.skipped:
+        print(f"skipped: {kind} {old} of {crate}: the tree has none")
     for note in sorted(set(renaming.notes)):
         print(f"note: {note}")
     for problem in problems:
@@ -84,13 +87,8 @@ def collisions(tree, table):
     for crate, modules in table.modules.items():
         below = {table.crates.get(name, name) for name in tree.deps[crate]} | {table.crates.get(crate, crate)}
         for old, new in modules.items():
-            if old not in tree.modules[crate]:
-                told.append(f"{crate} has no module {'::'.join(old)}")
             if (*old[:-1], new) in tree.modules[crate] or new in below:
                 told.append(f"{crate} has {new}, for the module {'::'.join(old)}, already, or stands on it")
-    for crate, names in table.names.items():
-        told += [f"{crate} defines no {old}" for old in names if not tree.defined[crate][old]]
-    told += [f"there is no crate {old}" for old in table.crates if old not in tree.deps]
     told += [f"{new} is a crate already" for new in table.crates.values() if new in tree.deps or any(new in below for below in tree.deps.values())]
     return told
 
