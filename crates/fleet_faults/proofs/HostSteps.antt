@@ -10,8 +10,8 @@ use Rattle.group_tree.specs.declared.ids.GroupId.{GroupId}
 use Rattle.fleet_numbers.specs.NumberLists.{list_at, IsRising}
 use Rattle.fleet_numbers.proofs.RisingLemmas.{are_below-rising, below_at}
 use Rattle.domains.specs.Ids.{group_numbers}
-use Rattle.text_parts.specs.Telling.{Telling, with_breaches}
-use Rattle.text_parts.proofs.Tellings.{after}
+use Rattle.inventory_read.specs.Telling.{Telling, with_breaches}
+use Rattle.inventory_read.proofs.Tellings.{after}
 use Rattle.fleet_faults.specs.Breaches.{Breach}
 use Rattle.fleet_faults.specs.Numbered.{cross_in, first_pair, firsts_in, marks_in, new_at, new_pair, not_nested}
 use Rattle.fleet_faults.specs.declared.numbers.Numbers.{Numbers}

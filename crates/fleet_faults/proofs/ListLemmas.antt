@@ -16,8 +16,8 @@ use Rattle.domains.specs.Numbered.{host_at}
 use Rattle.domains.specs.Starts.{nowhere, allowed_of}
 use Rattle.domains.proofs.ByNumber.{group_name, limits_at, limited_groups}
 use Rattle.domains.proofs.KnownLists.{AreListsOf}
-use Rattle.text_parts.specs.Telling.{Telling, nothing_told, with_breaches}
-use Rattle.text_parts.proofs.Tellings.{none_of, with_none}
+use Rattle.inventory_read.specs.Telling.{Telling, nothing_told, with_breaches}
+use Rattle.inventory_read.proofs.Tellings.{none_of, with_none}
 use Rattle.fleet_faults.specs.AllFaults as names
 use Rattle.fleet_faults.specs.AllFaults.{all_crossings, all_over, or_else}
 use Rattle.fleet_faults.specs.Breaches.{Breach, NotNested}

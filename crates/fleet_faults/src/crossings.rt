@@ -2,7 +2,7 @@
 ghost use Rattle.std.specs.Prelude.{◌≡◌, not, ◌*◌, ◌^◌, ◌<◌, ◌∷◌, [], OnOk, All, length};
 ghost use Rattle.fleet_numbers.specs.NumberLists.{IsRising};
 ghost use Rattle.domains.specs.Ids.{group_lists, group_numbers};
-ghost use Rattle.text_parts.specs.Telling.{with_breaches};
+ghost use Rattle.inventory_read.specs.Telling.{with_breaches};
 ghost use Rattle.fleet_faults.specs.Numbered.{all_new, is_new_pair, new_at, new_with, not_nested};
 ghost use Rattle.text_parts.specs.Breaches.{unless};
 

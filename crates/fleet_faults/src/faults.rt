@@ -2,7 +2,7 @@
 ghost use Rattle.std.specs.Prelude.{◌≡◌, ℕ, ◌≤◌, IfOk, OnOk, length};
 ghost use Rattle.group_tree.specs.Places.{Inventory};
 ghost use Rattle.group_tree.specs.Bounds.{IsWithinBounds};
-ghost use Rattle.text_parts.specs.Telling.{nothing_told, with_breaches};
+ghost use Rattle.inventory_read.specs.Telling.{nothing_told, with_breaches};
 ghost use Rattle.fleet_faults.specs.AllFaults.{all_crossings, all_over, or_else};
 ghost use Rattle.fleet_faults.specs.Numbered.{AreListsFrom, IsNumberingOf};
 ghost use Rattle.fleet_faults.specs.ToldFaults.{AreToldOf};

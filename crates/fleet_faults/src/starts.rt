@@ -3,7 +3,7 @@ ghost use Rattle.std.specs.Prelude.{◌≡◌, not, ◌<◌, false, slice_index_
 ghost use Rattle.std.specs.List.{flat_map, range_with_len};
 ghost use Rattle.domains.specs.FleetViews.{off_count};
 ghost use Rattle.domains.specs.Ids.{host_lists, host_numbers};
-ghost use Rattle.text_parts.specs.Telling.{with_breaches};
+ghost use Rattle.inventory_read.specs.Telling.{with_breaches};
 ghost use Rattle.text_parts.specs.Breaches.{unless};
 ghost use Rattle.fleet_faults.specs.Breaches.{StartOver};
 ghost use Rattle.fleet_faults.specs.Numbered.{over_by, over_in};

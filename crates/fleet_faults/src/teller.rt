@@ -1,6 +1,6 @@
 //! The faults that are told, and how many more there are.
 ghost use Rattle.std.specs.Prelude.{◌≡◌, ◌+◌, ◌++◌, ◌∷◌, [], OnOk, Some, length, map, nat_lt, nat_eq, ◌&&◌};
-ghost use Rattle.text_parts.specs.Telling.{nothing_told, with_breaches};
+ghost use Rattle.inventory_read.specs.Telling.{nothing_told, with_breaches};
 ghost use Rattle.fleet_faults.specs.Breaches.{Breach, NotNested, StartOver, breach_of};
 
 use crate::told::FleetTold;
@@ -19,7 +19,7 @@ pub(crate) struct Teller {
 
 impl Model for Teller {
     ghost use Rattle.std.specs.Prelude.{map};
-    ghost use Rattle.text_parts.specs.Telling.{Telling};
+    ghost use Rattle.inventory_read.specs.Telling.{Telling};
     ghost use Rattle.fleet_faults.specs.Breaches.{Breach, breach_of};
 
     ghost Value = { Telling Breach };

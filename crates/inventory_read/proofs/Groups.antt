@@ -13,7 +13,7 @@ use Rattle.text_parts.specs.Shapes.{members_in}
 use Rattle.inventory_read.specs.Keys.{all_key, children_key}
 use Rattle.inventory_read.specs.Documents as documents
 use Rattle.inventory_read.specs.Documents.{part, standing, under, with_below, below_body, below_members, groups_in, groups_among, groups_from, merged, own_children, groups_beside_all, groups_of}
-use Rattle.inventory_read.specs.Listings.{Outline, child_of, outline_of, outline_at, most}
+use Rattle.inventory_read.specs.Listings.{Outline, outline_of, outline_at, most}
 use Rattle.inventory_read.specs.declared.checking.Listed.{Listed}
 
 groups_in-is : (value : Data) → groups_in value ≡ groups_among (members_in value)

@@ -1,5 +1,5 @@
 //! From the bytes of a text to the tree, or to its faults.
-ghost use Rattle.std.specs.Prelude.{◌≡◌, ◌∷◌, [], List, Some, map, IfOk, IfErr, OnOk, IsUtf8, MatchOption, MatchResult};
+ghost use Rattle.std.specs.Prelude.{◌≡◌, ◌∷◌, [], List, Some, false, map, IfOk, IfErr, OnOk, IsUtf8, MatchOption, MatchResult};
 ghost use Rattle.std.specs.List.{flat_map};
 ghost use Rattle.serde_json.specs.Data.{null};
 ghost use Rattle.serde_json.specs.Read.{read};
@@ -10,7 +10,7 @@ ghost use Rattle.inventory_read.specs.Keys.{all_key};
 ghost use Rattle.inventory_read.specs.Listings.{child_of};
 ghost use Rattle.inventory_read.specs.Reads.{IsReadAs, IsTrueOf};
 ghost use Rattle.inventory_read.specs.Rules as rules;
-ghost use Rattle.text_parts.specs.Telling.{with_breaches};
+ghost use Rattle.inventory_read.specs.Telling.{with_breaches};
 ghost use Rattle.inventory_read.specs.ToldFaults.{AreTold, AreFaultsOf, is_empty};
 ghost use Rattle.inventory_read.specs.Values as values;
 

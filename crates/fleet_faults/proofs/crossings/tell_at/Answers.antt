@@ -1,6 +1,6 @@
 use Rattle.std.proofs.Common.{sym}
 use Rattle.domains.specs.Ids.{group_numbers}
-use Rattle.text_parts.proofs.Tellings.{with_none}
+use Rattle.inventory_read.proofs.Tellings.{with_none}
 use Rattle.fleet_faults.specs.Numbered.{new_with}
 use Rattle.fleet_faults.proofs.HostSteps.{group_told}
 use Rattle.fleet_faults.proofs.crossings.tell_at.Goals as goal

@@ -1,7 +1,7 @@
 use Rattle.std.proofs.Common.{◌≡◌, take}
 use Rattle.std.specs.List.{flat_map}
 use Rattle.domains.specs.Ids.{group_numbers}
-use Rattle.text_parts.specs.Telling.{with_breaches}
+use Rattle.inventory_read.specs.Telling.{with_breaches}
 use Rattle.fleet_faults.specs.Numbered.{new_with}
 use Rattle.fleet_faults.proofs.crossings.tell_at.Given as goal
 

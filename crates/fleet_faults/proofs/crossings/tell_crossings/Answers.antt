@@ -5,8 +5,8 @@ use Rattle.group_tree.specs.declared.ids.GroupId.{GroupId}
 use Rattle.fleet_numbers.specs.NumberLists.{list_at, IsRising}
 use Rattle.domains.specs.Ids.{group_lists, group_numbers}
 use Rattle.domains.proofs.ReaderLemmas.{lent_within}
-use Rattle.text_parts.specs.Telling.{with_breaches}
-use Rattle.text_parts.proofs.Tellings.{after, flat_map-range_more, with_none}
+use Rattle.inventory_read.specs.Telling.{with_breaches}
+use Rattle.inventory_read.proofs.Tellings.{after, flat_map-range_more, with_none}
 use Rattle.fleet_faults.specs.Numbered.{firsts_at, marks_in, new_at}
 use Rattle.fleet_faults.proofs.HostSteps.{below_rising, marked_next, told_at}
 use Rattle.fleet_faults.proofs.crossings.tell_crossings.Goals as goal

@@ -1,7 +1,7 @@
 use Rattle.std.proofs.Common.{◌≡◌, ℕ, ◌+◌, ◌*◌, ◌<◌, false, length, get_or, take}
 use Rattle.std.specs.List.{flat_map, list_any, range_with_len}
 use Rattle.domains.specs.Ids.{group_lists}
-use Rattle.text_parts.specs.Telling.{with_breaches}
+use Rattle.inventory_read.specs.Telling.{with_breaches}
 use Rattle.fleet_faults.specs.Numbered.{cross_in, firsts_at}
 use Rattle.fleet_faults.proofs.crossings.tell_crossings.Given as goal
 

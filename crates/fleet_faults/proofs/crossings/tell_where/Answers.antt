@@ -1,5 +1,5 @@
 use Rattle.std.proofs.Common.{not, ap}
-use Rattle.text_parts.proofs.Tellings.{kept_one}
+use Rattle.inventory_read.proofs.Tellings.{kept_one}
 use Rattle.fleet_faults.specs.Numbered.{not_nested}
 use Rattle.fleet_faults.proofs.crossings.tell_where.Goals as goal
 

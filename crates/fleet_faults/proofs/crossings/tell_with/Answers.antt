@@ -1,7 +1,7 @@
 use Rattle.std.proofs.Common.{Bool, get_or, sym, ap, ◌∙◌, not}
 use Rattle.text_parts.specs.Breaches.{unless}
-use Rattle.text_parts.specs.Telling.{with_breaches}
-use Rattle.text_parts.proofs.Tellings.{with_none}
+use Rattle.inventory_read.specs.Telling.{with_breaches}
+use Rattle.inventory_read.proofs.Tellings.{with_none}
 use Rattle.fleet_faults.specs.Numbered.{new_pair, not_nested}
 use Rattle.fleet_faults.proofs.HostSteps.{group_told}
 use Rattle.fleet_faults.proofs.crossings.tell_with.Goals as goal

@@ -4,8 +4,8 @@ use Rattle.std.proofs.lemmas.List.{length-map}
 use Rattle.group_tree.specs.Places.{Inventory}
 use Rattle.domains.specs.Faults.{hosts_bound}
 use Rattle.domains.specs.Hosts.{hosts_of}
-use Rattle.text_parts.specs.Telling.{Telling, nothing_told, with_breaches}
-use Rattle.text_parts.proofs.Tellings.{told_of, more_of}
+use Rattle.inventory_read.specs.Telling.{Telling, nothing_told, with_breaches}
+use Rattle.inventory_read.proofs.Tellings.{told_of, more_of}
 use Rattle.fleet_faults.specs.AllFaults.{all_crossings, all_faults, all_over, or_else}
 use Rattle.fleet_faults.specs.Breaches.{Breach, TooManyHosts}
 use Rattle.fleet_faults.proofs.Firsts.{few_hosts, many_hosts}

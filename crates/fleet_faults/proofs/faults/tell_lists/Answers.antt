@@ -1,7 +1,7 @@
 use Rattle.std.proofs.Common.{◌≡◌, ◌&&◌, true, false, [], List, length, nat_eq, sym, ap, ◌∙◌, arith}
 use Rattle.std.proofs.lemmas.Result.{on_ok_weaker}
-use Rattle.text_parts.specs.Telling.{Telling, nothing_told, with_breaches}
-use Rattle.text_parts.proofs.Tellings.{with_none}
+use Rattle.inventory_read.specs.Telling.{Telling, nothing_told, with_breaches}
+use Rattle.inventory_read.proofs.Tellings.{with_none}
 use Rattle.fleet_faults.specs.AllFaults.{all_crossings, all_over, or_else}
 use Rattle.fleet_faults.specs.Breaches.{Breach}
 use Rattle.fleet_faults.specs.Numbered.{all_new, over_in}

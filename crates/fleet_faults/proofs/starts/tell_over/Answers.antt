@@ -1,6 +1,6 @@
 use Rattle.std.proofs.Common.{ℕ, Option, sym, ap, ◌∙◌}
-use Rattle.text_parts.specs.Telling.{with_breaches}
-use Rattle.text_parts.proofs.Tellings.{with_none}
+use Rattle.inventory_read.specs.Telling.{with_breaches}
+use Rattle.inventory_read.proofs.Tellings.{with_none}
 use Rattle.fleet_faults.specs.Numbered.{over_by}
 use Rattle.fleet_faults.proofs.starts.tell_over.Goals as goal
 

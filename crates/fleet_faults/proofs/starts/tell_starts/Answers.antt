@@ -8,8 +8,8 @@ use Rattle.fleet_numbers.specs.NumberLists.{list_at}
 use Rattle.domains.specs.FleetViews.{off_count}
 use Rattle.domains.specs.Ids.{host_lists}
 use Rattle.domains.specs.Numbered.{host_at}
-use Rattle.text_parts.specs.Telling.{with_breaches}
-use Rattle.text_parts.proofs.Tellings.{after, flat_map-range_more, with_none}
+use Rattle.inventory_read.specs.Telling.{with_breaches}
+use Rattle.inventory_read.proofs.Tellings.{after, flat_map-range_more, with_none}
 use Rattle.fleet_faults.specs.Numbered.{listed_groups, over_by, over_in}
 use Rattle.fleet_faults.proofs.starts.tell_starts.Goals as goal
 

@@ -1,6 +1,6 @@
 use Rattle.std.proofs.Common.{◌≡◌}
 use Rattle.std.specs.List.{flat_map, range_with_len}
-use Rattle.text_parts.specs.Telling.{with_breaches}
+use Rattle.inventory_read.specs.Telling.{with_breaches}
 use Rattle.fleet_faults.specs.Numbered.{over_in}
 use Rattle.fleet_faults.proofs.starts.tell_starts.Given as goal
 

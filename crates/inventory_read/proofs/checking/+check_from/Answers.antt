@@ -7,7 +7,7 @@ use Rattle.inventory_read.specs.Documents.{below_body, groups_among, with_below}
 use Rattle.inventory_read.specs.Listings.{broken_from, most, outline_at, outline_of, texts}
 use Rattle.inventory_read.specs.Paths.{text_path}
 use Rattle.inventory_read.specs.Rules.{placed, broken_by_group}
-use Rattle.text_parts.specs.Telling.{with_breaches}
+use Rattle.inventory_read.specs.Telling.{with_breaches}
 use Rattle.inventory_read.proofs.Checks.{pop_last}
 use Rattle.inventory_read.proofs.Groups.{below_body-is, listed_more, listed_with_below}
 use Rattle.inventory_read.proofs.Walks.{pass_below, found_with_below}
@@ -36,19 +36,20 @@ loop-name-preserved t c =
     let steps = c.in-Some-2.ensures.steps in
     let more = groups_among (members_view c.next.new.self) in
     let pushed : c.push-in-loop-name.new.self.items ≡ c.args.names.now.items ++ c.as_str-name.result ∷ [] =
-    c.in_ok-push-in-loop-name.ensures.items ∙ ap (λ list. list ++ c.as_str-name.result ∷ []) l.invariant.back in
+    c.in_ok-push-2.ensures.items ∙ ap (λ list. list ++ c.as_str-name.result ∷ []) l.invariant.back in
     let names : texts c.push-in-loop-name.new.self.items ≡ way ++ child ∷ [] =
     ap texts pushed ∙ map-append (λ (name : Bor (List ℕ)). name.now) c.args.names.now.items (c.as_str-name.result ∷ []) ∙ ap (λ name. way ++ name ∷ []) c.as_str-name.ensures.value in
     let own : c.check_from.new.faults ≡ with_breaches l.faults (broken_from (way ++ child ∷ []) child child_body) =
     rw (names, c.as_str-name.ensures.value) at c.in_ok-check_from.ensures.found in
-    let listed : map outline_of c.check_from.new.groups.items ≡ map outline_of l.groups.items ++ map (outline_at l.depth) (with_below child child_body (below_body child_body)) =
-    rw c.as_str-name.ensures.value at c.in_ok-check_from.ensures.listed in
+    let listed : map outline_of c.check_from.new.groups.items ≡ map outline_of l.groups.items ++ map (outline_at c.saturating_add-depth.result) (with_below child child_body (below_body child_body)) =
+    c.in_ok-check_from.ensures.listed
+    ∙ ap (λ name. map outline_of l.groups.items ++ map (outline_at c.saturating_add-depth.result) (with_below name child_body (below_body child_body))) c.as_str-name.ensures.value in
     let nested = rw steps at l.invariant.nested in
     record {
       back = pop_last c.check_from.new.names.items c.args.names.now.items c.pop.new.self.items c.as_str-name.result c.check_from.new.names.len
           (c.in_ok-check_from.ensures.back ∙ pushed) (omega (arith, c.check_from.new.names.ok)) c.pop.ensures.rest;
       found = pass_below _ _ way child child_body more _ own (rw steps at l.invariant.found);
-      listed = listed_more _ _ l.depth (with_below child child_body (below_body child_body)) more _ listed (rw steps at l.invariant.listed);
+      listed = listed_more _ _ c.saturating_add-depth.result (with_below child child_body (below_body child_body)) more _ listed (rw steps at l.invariant.listed);
       nested = omega arith;
     }
 

@@ -20,11 +20,11 @@ returns-in-Some g c =
     (λ told are. record { are_told = record { breaches = broken document; all = inr (document, is.0, is.1, refl); are_told = are.0 }; some = are.1 }))
     c.read_document.ensures
 
-pub returns-in-None : goal.returns-in-None
-returns-in-None g c =
+pub returns-in_ok-no_json-in-None : goal.returns-in_ok-no_json-in-None
+returns-in_ok-no_json-in-None g c =
     let none : IsNoJson c.args.text.now = rw c.in-None.is at c.in_ok-found.ensures in
-    let are = c.in_ok-no_json.ensures in
+    let are = c.in_ok-no_json-in-None.ensures in
     record {
       are_told = record { breaches = NotJson ∷ []; all = inl (refl, none); are_told = are };
-      some = some_told c.args.most NotJson [] c.in_ok-no_json.field-0 are;
+      some = some_told c.args.most NotJson [] c.in_ok-no_json-in-None.field-0 are;
     }

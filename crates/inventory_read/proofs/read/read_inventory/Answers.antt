@@ -1,5 +1,4 @@
 use Rattle.std.proofs.Common.{arith}
-use Rattle.inventory_read.specs.Reads.{IsReadAs}
 use Rattle.inventory_read.specs.ToldFaults.{AreFaultsOf}
 use Rattle.inventory_read.proofs.Readings.{first_is_true, has_one}
 use Rattle.inventory_read.proofs.read.read_inventory.Goals as goal

@@ -1,7 +1,7 @@
 use Rattle.std.proofs.Common.{sym, ◌∙◌}
 use Rattle.std.proofs.lemmas.Result.{on_ok_weaker}
 use Rattle.fleet_faults.specs.Breaches.{breach_of}
-use Rattle.text_parts.proofs.Tellings.{told_where, left_where}
+use Rattle.inventory_read.proofs.Tellings.{told_where, left_where}
 use Rattle.fleet_faults.proofs.teller.Teller.tell.Goals as goal
 
 pub returns-then-has_room : goal.returns-then-has_room

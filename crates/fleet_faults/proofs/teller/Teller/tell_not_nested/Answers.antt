@@ -1,7 +1,7 @@
 use Rattle.std.proofs.Common.{◌≡◌, ℕ, Some, List, sym, ◌∙◌}
 use Rattle.std.proofs.lemmas.Result.{on_ok_weaker}
 use Rattle.fleet_faults.specs.Breaches.{NotNested}
-use Rattle.text_parts.proofs.Tellings.{told_where, left_where}
+use Rattle.inventory_read.proofs.Tellings.{told_where, left_where}
 use Rattle.fleet_faults.proofs.teller.Teller.tell_not_nested.Goals as goal
 
 named : (h host f first s second : List ℕ) → h ≡ host → f ≡ first → s ≡ second → Some (NotNested h f s) ≡ Some (NotNested host first second)

@@ -1,7 +1,7 @@
 use Rattle.std.proofs.Common.{ℕ, Some, List, sym, ap, ◌∙◌}
 use Rattle.std.proofs.lemmas.Result.{on_ok_weaker}
 use Rattle.fleet_faults.specs.Breaches.{StartOver}
-use Rattle.text_parts.proofs.Tellings.{told_where, left_where}
+use Rattle.inventory_read.proofs.Tellings.{told_where, left_where}
 use Rattle.fleet_faults.proofs.teller.Teller.tell_start_over.Goals as goal
 
 pub returns-then-not-has_room : goal.returns-then-not-has_room
