@@ -1,4 +1,5 @@
 pub mod Unread
 pub mod Inventories
+pub mod PatternNames
 pub mod Playbooks
 pub mod Every

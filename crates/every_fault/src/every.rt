@@ -1,14 +1,12 @@
 //! All that is told of an inventory and a playbook.
-ghost use Rattle.std.specs.Prelude.{◌≡◌, IfOk, MatchOption};
+ghost use Rattle.std.specs.Prelude.{IfOk};
 ghost use Rattle.std.specs.Option.{option_map};
 ghost use Rattle.every_fault.specs.Every.{IsEveryFault};
-ghost use Rattle.every_fault.specs.Playbooks.{IsPlaybookPart};
 
 use crate::fleet::inventory_part;
-use crate::patterns::pattern_part;
-use crate::silence::{is_silent, no_playbook_faults};
+use crate::pattern_names::PatternsTold;
+use crate::playbook::{pattern_part, playbook_part};
 use domains::FleetTold;
-use playbook_faults::{PatternsTold, playbook_faults};
 use std::alloc::{AllocError, Global};
 
 /// The faults of an inventory's text, of the fleet that it describes, of a playbook's text, and of the patterns of its plays: of each the first, in the order in
@@ -17,11 +15,12 @@ use std::alloc::{AllocError, Global};
 pub struct EveryFault {
     pub inventory: inventory_read::Told,
     pub fleet: FleetTold,
-    pub playbook: playbook_faults::Told,
+    pub playbook: play_rules::Told,
     pub patterns: PatternsTold,
 }
 
 /// Every fault of an inventory, and of a playbook if there is one; at most `most` of each part. Fails only if an allocation fails.
+#[tactic(auto, using(crate::proofs::Parts::looked_up))]
 pub fn every_fault(
     alloc: Global,
     inventory: &[u8],
@@ -34,12 +33,11 @@ pub fn every_fault(
         Ok(part) => part,
         Err(refused) => return Err(refused),
     };
-    let of_playbook = match playbook_part(alloc, playbook, most) {
-        Ok(told) => told,
+    let (of_playbook, plays) = match playbook_part(alloc, playbook, most) {
+        Ok(part) => part,
         Err(refused) => return Err(refused),
     };
-    let is_playbook = is_silent(of_playbook.faults.as_slice(), of_playbook.more);
-    match pattern_part(alloc, &fleet, playbook, most, is_playbook) {
+    match pattern_part(alloc, &fleet, &plays, most) {
         Ok(patterns) => Ok(EveryFault {
             inventory: of_inventory,
             fleet: of_fleet,
@@ -47,18 +45,5 @@ pub fn every_fault(
             patterns,
         }),
         Err(refused) => Err(refused),
-    }
-}
-
-fn playbook_part(
-    alloc: Global,
-    playbook: Option<&[u8]>,
-    most: usize,
-) -> Result<playbook_faults::Told, AllocError>
-    ensures { IfOk result (IsPlaybookPart (option_map (λ text. text.now) playbook.entry) most) }
-{
-    match playbook {
-        Some(playbook) => playbook_faults(alloc, playbook, most),
-        None => Ok(no_playbook_faults(alloc)),
     }
 }

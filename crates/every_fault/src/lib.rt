@@ -3,7 +3,9 @@
 
 mod every;
 mod fleet;
-mod patterns;
+mod pattern_names;
+mod playbook;
 mod silence;
 
 pub use every::{EveryFault, every_fault};
+pub use pattern_names::PatternsTold;

@@ -2,16 +2,10 @@
 ghost use Rattle.std.specs.Prelude.{◌≡◌, [], true};
 ghost use Rattle.every_fault.specs.Unread.{is_silent};
 
+use crate::pattern_names::PatternsTold;
 use domains::FleetTold;
-use playbook_faults::{PatternsTold, Told};
+use play_rules::Told;
 use std::alloc::Global;
-
-/// Whether nothing is told, and there is nothing more.
-pub(crate) fn is_silent<F>(faults: &[F], more: usize) -> bool
-    ensures { result ≡ is_silent faults.now more }
-{
-    faults.is_empty() && more == 0
-}
 
 pub(crate) fn no_inventory_faults(alloc: Global) -> inventory_read::Told
     ensures faults { result.faults.items ≡ [] }

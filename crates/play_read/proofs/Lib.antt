@@ -2,11 +2,9 @@ pub mod FirstPieces
 pub mod Closings
 pub mod Readings
 pub mod Given
-pub mod Parts
-pub mod Told
-pub mod Leads
 pub mod Lists
-pub mod Places
 pub mod StepLaws
 pub mod PlayLaws
-pub mod Whole
+pub mod Missing
+pub mod Reports
+pub mod WholePlay

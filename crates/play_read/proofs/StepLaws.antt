@@ -1,97 +1,34 @@
--- Handlers, tasks and plays, one after another.
-use Rattle.std.proofs.Common.{◌≡◌, Bool, false, ap, nat_lt, nat_le, ℕ, ◌+◌, ◌<◌, ◌≤◌, Option, Some, None, List, [], ◌∷◌, ◌++◌, decimal, length, map, sym, ◌∙◌, refl, subst, arith}
-use Rattle.std.specs.Prelude.{All}
-use Rattle.std.specs.List.{filter_map}
-use Rattle.std.specs.List.{cons_option}
+-- Steps that are read.
+use Rattle.std.proofs.Common.{◌≡◌, zero, suc, Bool, true, false, not, ℕ, ◌+◌, ◌<◌, ◌≤◌, Option, Some, None, List, [], ◌∷◌, ◌++◌, length, map, sym, ◌∙◌, ap, refl, subst, arith, length-append, unwrap_or}
+use Rattle.std.specs.Prelude.{All, IsFalse, if◌then◌else◌}
+use Rattle.std.specs.List.{cons_option, filter_map, list_any}
+use Rattle.std.proofs.lemmas.Bool.{or_parts}
 use Rattle.std.proofs.lemmas.List.{length-map}
 use Rattle.std.proofs.lemmas.Slice.Zip.{AllZip-long}
 use Rattle.std.proofs.lemmas.List.Elements.{All-nil, All-cons, All-weaker}
 use Rattle.std.proofs.lemmas.List.Quantifiers.{position-Some}
-use Rattle.group_tree.specs.Names.{Name, same_name}
+use Rattle.group_tree.specs.Names.{Name, is_among, same_name}
 use Rattle.serde_json.specs.Data.{Data}
-use Rattle.play_model.specs.Plays.{NotifiesNobody, AreNumbersBelow}
+use Rattle.text_parts.specs.Shapes.{is_object}
+use Rattle.text_parts.specs.Words.{has_braces}
+use Rattle.text_parts.proofs.BreachLaws.{kept}
+use Rattle.play_model.specs.Plays.{NotifiesNobody, AreNumbersBelow, HasPlainWords}
 use Rattle.play_model.specs.declared.step.Step.{Step}
-use Rattle.play_rules.specs.Breaches.{Check, BadShape, Broken, ManyPlays, all_in, unless}
+use Rattle.play_rules.specs.Breaches.{BadBraces, BadShape, Broken, Check, Spot, all_in}
+use Rattle.play_rules.specs.CommandPlaces.{bad_command, bad_path, bad_words}
+use Rattle.play_rules.specs.Commands.{Word, words_in}
+use Rattle.play_rules.specs.KeyLists.{keys_in}
+use Rattle.play_rules.specs.Names.{once, once_more, place_of}
 use Rattle.play_rules.specs.Paths.{Path, handler_path, task_path}
-use Rattle.play_rules.specs.Plays.{spot_at, told, checks, plays_in, checks_of_handlers, checks_of_tasks, checks_of_play, checks_of_plays}
-use Rattle.play_rules.specs.Steps.{WrittenStep, name_in, checks_of_handler, checks_of_task, twice_named, unknown_handlers, place_of, notified_in, step_of, handler_of}
+use Rattle.play_rules.specs.Plays.{checks_of_handlers, checks_of_tasks, handler_names, handlers_in, spot_at}
+use Rattle.play_rules.specs.Steps.{WrittenStep, bad_ignore, bad_name, bad_register, checks_of_handler, checks_of_head, checks_of_keys, checks_of_step, checks_of_task, condition_checks, name_in, notified_in, step_of, handler_of, unknown_key}
 use Rattle.play_rules.specs.Checks.{AllKept}
-use Rattle.play_rules.specs.Faults.{IsRefusal}
-use Rattle.play_rules.specs.declared.fault.PlayFault.{PlayFault}
-use Rattle.play_rules.proofs.CheckLaws.{kept_in, kept_together, none_broken, refused_here}
+use Rattle.play_rules.specs.declared.place.StepList.{StepList}
+use Rattle.play_rules.specs.declared.place.StepList.TheVariants.{Tasks, Handlers}
+use Rattle.play_rules.proofs.CheckLaws.{kept_from, kept_parts, kept_rules}
 use Rattle.play_read.specs.Readings.{IsStep}
 use Rattle.play_read.specs.Reads.{AreSteps}
-use Rattle.play_read.proofs.Leads.{Leads, leads_behind, refused_next, leads_behind_both, refused_next_both}
-
--- one more step, where it stands first among those that are left
-module _ (at : Path) (play : Option ℕ) (place : ℕ) (names : List Name) (left : List Data) (step : Data) (later : List Data) (front : left ≡ step ∷ later) (whole : List Check) where
-  module _ (first : ℕ) (leads : Leads (checks_of_handlers at play first place names left) whole) where
-    abbrev of_handler : List Check
-    of_handler = checks_of_handler (spot_at play (first + place)) step
-
-    here : Leads (checks_of_handlers at play first place names (step ∷ later)) whole
-    here = subst (λ (steps : List Data). Leads (checks_of_handlers at play first place names steps) whole) front leads
-
-    pub handlers_on : (next : List Name) → next ≡ names ++ filter_map name_in (step ∷ []) → AllKept of_handler → twice_named names step ≡ []
-        → Leads (checks_of_handlers at play first (place + 1) next later) whole
-    handlers_on next more kept once =
-        subst (λ (of : List Name). Leads (checks_of_handlers at play first (place + 1) of later) whole) (sym more)
-        (leads_behind_both (all_in (handler_path at place) of_handler) (map Broken (twice_named names step))
-        (checks_of_handlers at play first (place + 1) (names ++ filter_map name_in (step ∷ [])) later) whole (kept_in (handler_path at place) of_handler kept) (none_broken (twice_named names step) once) here)
-
-    pub handlers_refused : (fault : PlayFault) → IsRefusal fault (all_in (handler_path at place) of_handler ++ map Broken (twice_named names step)) → IsRefusal fault whole
-    handlers_refused fault is =
-        refused_next_both fault (all_in (handler_path at place) of_handler) (map Broken (twice_named names step))
-        (checks_of_handlers at play first (place + 1) (names ++ filter_map name_in (step ∷ [])) later) whole here is
-
-  module _ (leads : Leads (checks_of_tasks at play place names left) whole) where
-    abbrev of_task : List Check
-    of_task = checks_of_task (spot_at play (place + 1)) step
-
-    there : Leads (checks_of_tasks at play place names (step ∷ later)) whole
-    there = subst (λ (steps : List Data). Leads (checks_of_tasks at play place names steps) whole) front leads
-
-    pub tasks_on : AllKept of_task → unknown_handlers names step ≡ [] → Leads (checks_of_tasks at play (place + 1) names later) whole
-    tasks_on kept found =
-        leads_behind_both (all_in (task_path at place) of_task) (map Broken (unknown_handlers names step))
-        (checks_of_tasks at play (place + 1) names later) whole (kept_in (task_path at place) of_task kept) (none_broken (unknown_handlers names step) found) there
-
-    pub tasks_refused : (fault : PlayFault) → IsRefusal fault (all_in (task_path at place) of_task ++ map Broken (unknown_handlers names step)) → IsRefusal fault whole
-    tasks_refused fault is =
-        refused_next_both fault (all_in (task_path at place) of_task) (map Broken (unknown_handlers names step)) (checks_of_tasks at play (place + 1) names later) whole there is
-
--- the same of plays
-module _ (several : Bool) (place : ℕ) (left : List Data) (play : Data) (later : List Data) (front : left ≡ play ∷ later) (whole : List Check)
-    (leads : Leads (checks_of_plays several place left) whole) (said : Option ℕ) (is_told : said ≡ told several (place + 1)) (index : ℕ) (is_place : index ≡ place) where
-  now : Leads (checks_of_play (decimal index) said play ++ checks_of_plays several (place + 1) later) whole
-  now =
-      subst (λ (n : ℕ). Leads (checks_of_play (decimal n) said play ++ checks_of_plays several (place + 1) later) whole) (sym is_place)
-      (subst (λ (of : Option ℕ). Leads (checks_of_play (decimal place) of play ++ checks_of_plays several (place + 1) later) whole) (sym is_told)
-      (subst (λ (plays : List Data). Leads (checks_of_plays several place plays) whole) front leads))
-
-  pub plays_on : AllKept (checks_of_play (decimal index) said play) → Leads (checks_of_plays several (place + 1) later) whole
-  plays_on kept = leads_behind (checks_of_play (decimal index) said play) (checks_of_plays several (place + 1) later) whole kept now
-
-  pub plays_refused : (fault : PlayFault) → IsRefusal fault (checks_of_play (decimal index) said play) → IsRefusal fault whole
-  plays_refused fault is =
-      refused_next fault (checks_of_play (decimal index) said play) (checks_of_plays several (place + 1) later) whole now is
-
--- a document of one play asks what that asks
-only_is : (document play : Data) → plays_in document ≡ play ∷ [] → checks 1 document ≡ checks_of_plays false 0 (play ∷ [])
-only_is document play only =
-    ap (λ (plays : List Data). map Broken (unless (nat_lt 0 (length plays)) (BadShape []) ++ unless (nat_le (length plays) 1) ManyPlays) ++ checks_of_plays (nat_lt 1 (length plays)) 0 plays) only
-
-module _ (document play : Data) (only : plays_in document ≡ play ∷ []) (said : Option ℕ) (is_told : said ≡ None) (index : ℕ) (is_place : index ≡ 0) where
-  checks_are : checks_of_play (decimal index) said play ≡ checks_of_play (decimal 0) None play
-  checks_are = ap (λ (n : ℕ). checks_of_play (decimal n) said play) is_place ∙ ap (λ (of : Option ℕ). checks_of_play (decimal 0) of play) is_told
-
-  pub only_kept : AllKept (checks_of_play (decimal index) said play) → AllKept (checks 1 document)
-  only_kept kept =
-      subst AllKept (sym (only_is document play only)) (kept_together (checks_of_play (decimal 0) None play) [] (subst AllKept checks_are kept) tt)
-
-  pub only_refused : (fault : PlayFault) → IsRefusal fault (checks_of_play (decimal index) said play) → IsRefusal fault (checks 1 document)
-  only_refused fault is =
-      subst (IsRefusal fault) (sym (only_is document play only)) (refused_here fault (checks_of_play (decimal 0) None play) [] (subst (IsRefusal fault) checks_are is))
+use Rattle.play_read.proofs.Lists.{filter_map_short}
 
 pub as_many_steps : (says : Data → WrittenStep) (written : List Data) (steps : List Step) → AreSteps (map says written) steps → length steps ≡ length written
 as_many_steps says written steps each =
@@ -128,3 +65,80 @@ module _ (names : List Name) where
       (subst (λ (numbers : List ℕ). All (λ handler. handler < most) numbers) (sym each.0.notify)
       (All-weaker IsNumber (λ handler. handler < most) (λ handler below. omega (arith, below, few)) _ (found_below (notified_in task))))
       (tasks_named most few tasks steps each.1)
+
+-- no word has what none of them has
+none_has : {X : Type 0} (test : X → Bool) (xs : List X) → list_any test xs ≡ false → All (λ x. IsFalse (test x)) xs
+none_has test [] none k d within = absurd (omega (arith, within))
+none_has test (x ∷ xs) none zero d within = (or_parts (test x) (list_any test xs) none).0
+none_has test (x ∷ xs) none (suc k) d within =
+    none_has test xs (or_parts (test x) (list_any test xs) none).1 k d (omega (arith, within))
+
+not_true : (b : Bool) → not b ≡ true → b ≡ false
+not_true true e = cc
+not_true false e = refl
+
+abbrev ArePlain : List Word → Type 0
+ArePlain words = All (λ word. IsFalse (has_braces word)) words
+
+-- of the words of a command nothing is told
+plain_words : (spot : Spot) (at : Path) (words : Option (List Word)) → bad_words spot at words ≡ [] → ArePlain (unwrap_or words [])
+plain_words spot at None none = absurd (cc)
+plain_words spot at (Some words) none = none_has has_braces words (not_true (list_any has_braces words) (kept (not (list_any has_braces words)) (BadBraces spot) none))
+
+module _ (list : StepList) (spot : Spot) (step : Data) where
+  of_object : (object : Bool) → AllKept (if object then checks_of_keys list spot step else Broken (BadShape []) ∷ []) → AllKept (checks_of_keys list spot step)
+  of_object true are = are
+  of_object false are = absurd are
+
+  pub plain_where_kept : AllKept (checks_of_step list spot step) → ArePlain (unwrap_or (words_in step) [])
+  plain_where_kept are =
+      let head = (kept_parts (checks_of_head list spot step) (condition_checks spot step ++ map Broken (bad_ignore step)) (of_object (is_object step) are)).0 in
+      let named = (kept_parts (map Broken (unknown_key (keys_in list) step)) (map Broken (bad_name list step) ++ (map Broken (bad_command spot step) ++ map Broken (bad_register step))) head).1 in
+      let command = (kept_parts (map Broken (bad_name list step)) (map Broken (bad_command spot step) ++ map Broken (bad_register step)) named).1 in
+      plain_words spot (bad_path [] step) (words_in step) (kept_rules (bad_command spot step) (kept_parts (map Broken (bad_command spot step)) (map Broken (bad_register step)) command).0)
+
+-- so in no word of the steps an opening brace begins anything but a hole
+module _ (at : Path) (play : Option ℕ) where
+  pub tasks_plain : (place : ℕ) (readable : Bool) (names : List Name) (tasks : List Data) (steps : List Step)
+      → AllKept (checks_of_tasks at play place readable names tasks) → AreSteps (map (step_of names) tasks) steps → All HasPlainWords steps
+  tasks_plain place readable names [] [] are each = All-nil HasPlainWords
+  tasks_plain place readable names [] (step ∷ steps) are each = absurd each
+  tasks_plain place readable names (task ∷ tasks) [] are each = absurd each
+  tasks_plain place readable names (task ∷ tasks) (step ∷ steps) are each =
+      let both = kept_parts (all_in (task_path at place) (checks_of_task readable names (spot_at play (place + 1)) task)) (checks_of_tasks at play (place + 1) readable names tasks) are in
+      let own = (kept_parts (checks_of_step Tasks (spot_at play (place + 1)) task) _ (kept_from (task_path at place) (checks_of_task readable names (spot_at play (place + 1)) task) both.0)).0 in
+      All-cons HasPlainWords step steps
+      (subst ArePlain (sym each.0.words) (plain_where_kept Tasks (spot_at play (place + 1)) task own))
+      (tasks_plain (place + 1) readable names tasks steps both.1 each.1)
+
+  pub handlers_plain : (first place : ℕ) (met : List Name) (handlers : List Data) (steps : List Step)
+      → AllKept (checks_of_handlers at play first place met handlers) → AreSteps (map handler_of handlers) steps → All HasPlainWords steps
+  handlers_plain first place met [] [] are each = All-nil HasPlainWords
+  handlers_plain first place met [] (step ∷ steps) are each = absurd each
+  handlers_plain first place met (handler ∷ handlers) [] are each = absurd each
+  handlers_plain first place met (handler ∷ handlers) (step ∷ steps) are each =
+      let spot = spot_at play (first + place) in
+      let next = met ++ once met (filter_map name_in (handler ∷ [])) in
+      let both = kept_parts (all_in (handler_path at place) (checks_of_handler met spot handler)) (checks_of_handlers at play first (place + 1) next handlers) are in
+      let own = (kept_parts (checks_of_step Handlers spot handler) _ (kept_from (handler_path at place) (checks_of_handler met spot handler) both.0)).0 in
+      All-cons HasPlainWords step steps
+      (subst ArePlain (sym each.0.words) (plain_where_kept Handlers spot handler own))
+      (handlers_plain first (place + 1) next handlers steps both.1 each.1)
+
+-- there are no more names than handlers
+once_short : (before names : List Name) → length (once before names) ≤ length names
+once_short before [] = omega arith
+once_short before (name ∷ names) =
+    let more = once_more before name in
+    omega (arith, length-append more (once (before ++ more) names), more_short before name, once_short (before ++ more) names)
+  where
+    by_case : (old : Bool) (name : Name) → length (if old then [] else name ∷ []) ≤ 1
+    by_case true name = omega arith
+    by_case false name = omega arith
+
+    more_short : (before : List Name) (name : Name) → length (once_more before name) ≤ 1
+    more_short before name = by_case (is_among name before) name
+
+pub names_few : (play : Data) → length (handler_names play) ≤ length (handlers_in play)
+names_few play =
+    omega (arith, once_short [] (filter_map name_in (handlers_in play)), filter_map_short name_in (handlers_in play))

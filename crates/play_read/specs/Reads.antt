@@ -1,17 +1,20 @@
 -- What reading a playbook promises.
-use Rattle.std.specs.Prelude.{◌≡◌, ℕ, ◌++◌, Some, List, length, string_bytes, IsUtf8, ⊤, MatchOption}
+use Rattle.std.specs.Prelude.{◌≡◌, ℕ, ◌⊎◌, ◌++◌, false, Some, List, [], ◌∷◌, length, string_bytes, IsUtf8, ⊤, MatchOption}
 use Rattle.std.specs.List.{AllZip}
 use Rattle.serde_json.specs.Data.{Data}
 use Rattle.serde_json.specs.Read.{read}
-use Rattle.text_parts.specs.Texts.{BreaksFirst}
+use Rattle.text_parts.specs.Texts.{BreaksFirst, IsNoJson}
 use Rattle.play_model.specs.declared.play.Play.{Play}
 use Rattle.play_model.specs.declared.step.Step.{Step}
-use Rattle.play_rules.specs.Breaches.{NotJson}
+use Rattle.play_rules.specs.Breaches.{Check, NotJson}
 use Rattle.play_rules.specs.Plays.{WrittenPlay, checks, plays_of}
 use Rattle.play_rules.specs.Steps.{WrittenStep}
 use Rattle.play_rules.specs.Checks.{Named, rule, AllKept, IsFirst}
 use Rattle.play_rules.specs.Faults.{named_of}
+use Rattle.play_rules.specs.Told.{Tells}
+use Rattle.play_rules.specs.ToldFaults.{AreTold, is_empty}
 use Rattle.play_rules.specs.declared.fault.PlayFault.{PlayFault}
+use Rattle.play_rules.specs.declared.told.Told.{Told}
 use Rattle.play_read.specs.Readings.{IsStep}
 
 -- a step for each that is written, in the order in which they are written
@@ -43,3 +46,27 @@ IsFirstOf most document named = IsFirst named (checks most document)
 -- the fault names the first check of the text that is not kept, or want of memory
 abbrev pub IsTrueOf : ℕ → List ℕ → PlayFault → Type 0
 IsTrueOf most text fault = MatchOption (named_of fault) ⊤ (BreaksFirst (rule NotJson) (IsFirstOf most) text)
+
+-- what is told of a text that may say so many plays: that it is no JSON, and that alone, or all that its document has to keep
+-- and doesn't
+abbrev pub AreAllOf : ℕ → List ℕ → List Named → Type 0
+AreAllOf plays text named =
+    ((named ≡ rule NotJson ∷ []) × IsNoJson text) ⊎ ((document : Data) × IsUtf8 text × (read text ≡ Some document) × Tells (checks plays document) named)
+
+-- the first of all that is told of the text, at most so many, and how many more there are
+pub record AreToldOf (plays : ℕ) (text : List ℕ) (most : ℕ) (told : Told) : Type 0 where
+  pub named : List Named
+  pub all : AreAllOf plays text named
+  pub are_told : AreTold most named told
+
+-- the same of checks that aren't all kept
+pub record AreToldBy (checks : List Check) (most : ℕ) (told : Told) : Type 0 where
+  pub named : List Named
+  pub tells : Tells checks named
+  pub are_told : AreTold most named told
+  pub some : is_empty told ≡ false
+
+-- and of a text that doesn't keep all
+pub record AreFaultsOf (plays : ℕ) (text : List ℕ) (most : ℕ) (told : Told) : Type 0 where
+  pub are_told : AreToldOf plays text most told
+  pub some : is_empty told ≡ false

@@ -1,23 +1,19 @@
--- What the condition of several parts says, and what is wrong with the first that is none.
-use Rattle.std.specs.Prelude.{◌≡◌, ◌≢◌, Option, Some, None, Ok, List, [], ◌∷◌, ◌++◌, map, ⊤, MatchOption}
-use Rattle.cond.specs.Conditions.{IsMeant, IsAdded, Breaks}
+-- What the condition of several parts says.
+use Rattle.std.specs.Prelude.{◌≡◌, ◌≢◌, Option, Some, None, Ok, List, [], ◌∷◌, ◌++◌, map, ⊤}
+use Rattle.serde_json.specs.Data.{Data}
+use Rattle.cond.specs.Conditions.{IsMeant, IsAdded}
 use Rattle.cond.specs.Meaning.{Environment, Verdict}
 use Rattle.cond.specs.Trees.{verdict_of, all_of}
 use Rattle.cond.specs.Conjunctions.{verdicts_on}
 use Rattle.cond.specs.declared.condition.Cond.{Cond}
 use Rattle.cond.specs.declared.conjunction.Conjunction.{Conjunction}
-use Rattle.cond.specs.declared.fault.CondFault.{CondFault}
-use Rattle.cond.specs.declared.fault.CondFault.TheVariants as fault
 use Rattle.group_tree.specs.Names.{Name}
-use Rattle.play_rules.specs.Breaches.{Spot, Check, BadShape}
+use Rattle.play_rules.specs.Breaches.{Spot}
+use Rattle.play_rules.specs.Checks.{AllKept}
 use Rattle.play_rules.specs.Conditions as rules
-use Rattle.play_rules.specs.Paths.{element_or, under}
-use Rattle.play_rules.specs.Checks.{Named, rule, IsFirst}
-use Rattle.play_rules.specs.Faults.{named_by}
+use Rattle.play_rules.specs.Conditions.{checks_at, clauses_at}
 use Rattle.play_read.specs.declared.clause.Clause.{Clause}
 use Rattle.play_read.specs.declared.clause.Clause.TheVariants as clause
-use Rattle.play_read.specs.declared.condition_flaw.ConditionFlaw.{ConditionFlaw}
-use Rattle.play_read.specs.declared.condition_flaw.ConditionFlaw.TheVariants as flaw
 
 -- a part as the code keeps it
 abbrev pub said : Clause → rules.Clause
@@ -67,23 +63,6 @@ IsMore None all more = all ≡ more
 IsMore (Some (rules.Truth truth)) all more = (e : Environment) → verdicts_on more e ≡ verdicts_on all e ++ Ok truth ∷ []
 IsMore (Some (rules.Text text)) all more = IsAdded text (verdicts_on all) (verdicts_on more)
 
--- what is wrong with a part; with a truth value nothing but want of memory can be
-abbrev pub IsFaultOfClause : CondFault → rules.Clause → Type 0
-IsFaultOfClause found (rules.Truth truth) = found ≡ fault.Memory
-IsFaultOfClause found (rules.Text text) = Breaks found text
-
--- without a part nothing but want of memory is wrong
-abbrev pub IsFaultOfPart : CondFault → Option rules.Clause → Type 0
-IsFaultOfPart found None = found ≡ fault.Memory
-IsFaultOfPart found (Some clause) = IsFaultOfClause found clause
-
--- it names the first of these checks that is not kept, or want of memory
-abbrev pub IsFaultOfText : Spot → Name → CondFault → List Check → Type 0
-IsFaultOfText spot key found checks = MatchOption (named_by spot key found) ⊤ (λ named. IsFirst named checks)
-
-abbrev pub named_at : Spot → Name → ConditionFlaw → Option Named
-named_at spot key (flaw.BadShape place) = Some (rule (BadShape (element_or (under [] key) place)))
-named_at spot key (flaw.Bad found) = named_by spot key found
-
-abbrev pub IsFlawOf : Spot → Name → ConditionFlaw → List Check → Type 0
-IsFlawOf spot key found checks = MatchOption (named_at spot key found) ⊤ (λ named. IsFirst named checks)
+-- the condition under a key of a step says what is written there, where nothing is told of it
+abbrev pub SaysUnder : Spot → Name → Data → Option Cond → Type 0
+SaysUnder spot key step condition = AllKept (checks_at spot key step) → Says (clauses_at key step) condition

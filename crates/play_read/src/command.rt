@@ -1,22 +1,65 @@
 //! The key `command` of a step, or its long form.
-ghost use Rattle.std.specs.Prelude.{◌≡◌, ◌==◌, IfOk, length, option_map, option_and_then};
+#![tactic(auto, using(play_rules::proofs::AddLaws::findings_in_turn))]
+
+ghost use Rattle.std.specs.Prelude.{◌≡◌, ◌==◌, [], IfOk, OnOk, length, map, option_map, option_and_then, unwrap_or};
+ghost use Rattle.std.specs.List.{list_any};
 ghost use Rattle.serde_json.specs.Find.{get, as_str};
 ghost use Rattle.serde_json.specs.View.{view};
 ghost use Rattle.text_parts.specs.Shapes.{entries_in, elements_of};
-ghost use Rattle.play_rules.specs.Keys.{argv_key, cmd_key};
+ghost use Rattle.text_parts.specs.Words.{has_braces};
+ghost use Rattle.play_rules.specs.Breaches.{Broken};
+ghost use Rattle.play_rules.specs.CommandPlaces.{bad_command};
 ghost use Rattle.play_rules.specs.Commands as spec;
+ghost use Rattle.play_rules.specs.Keys.{argv_key, cmd_key};
+ghost use Rattle.play_rules.specs.Places.{path_at, spot_of};
+ghost use Rattle.play_rules.specs.Told.{Adds};
 
 use crate::argv::words_listed;
 use crate::free::free_words;
 use play_model::Words;
-use play_rules::count_entries;
+use play_rules::{FaultCollector, Flaw, Place, count_entries, place_of_bad_command};
 use serde_json::Value;
 use std::alloc::{AllocError, Global};
-use text_parts::elements_of;
+use text_parts::{check_word, elements_of};
 
-/// The words of a step's command: free-form text, or an object with one key alone, `argv` or `cmd`; nothing where a step
+/// The words of a step's command: each opening brace in them has to begin a hole.
+pub(crate) fn read_command(
+    faults: &mut FaultCollector,
+    place: Place,
+    step: &Value,
+) -> Result<Words, AllocError>
+    ensures found { OnOk result (Adds (path_at place) faults.old faults.new (map Broken (bad_command (spot_of place) (view step.now)))) }
+    ensures says { IfOk result (λ words. words ≡ unwrap_or (spec.words_in (view step.now)) []) }
+{
+    let alloc = faults.alloc();
+    let Some(words) = words_in(alloc, step)? else {
+        faults.add(place, Flaw::BadShape(place_of_bad_command(step)))?;
+        return Ok(Words::new(alloc));
+    };
+    faults.check(!have_bad_braces(&words), place, Flaw::BadBraces)?;
+    Ok(words)
+}
+
+fn have_bad_braces(words: &Words) -> bool
+    ensures { result ≡ list_any has_braces words.now }
+{
+    for place in 0..words.len() {
+        if has_bad_braces(words.at(place)) {
+            return true;
+        }
+    }
+    false
+}
+
+fn has_bad_braces(word: &str) -> bool
+    ensures { result ≡ has_braces word.now }
+{
+    check_word(word).is_err()
+}
+
+/// Its words: free-form text, or an object with one key alone, `argv` or `cmd`; nothing where a step
 /// has neither `command` nor its long form or both, or the value has another shape. It fails for want of memory alone.
-pub fn words_in(alloc: Global, step: &Value) -> Result<Option<Words>, AllocError>
+fn words_in(alloc: Global, step: &Value) -> Result<Option<Words>, AllocError>
     ensures { IfOk result (λ words. words ≡ spec.words_in (view step.now)) }
 {
     match command_in(step) {

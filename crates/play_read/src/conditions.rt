@@ -1,85 +1,142 @@
 //! The conditions of a step.
-ghost use Rattle.std.specs.Prelude.{◌≡◌, [], IfOk, IfErr, OnOk};
+#![tactic(auto, using(play_rules::proofs::AddLaws::findings_in_turn))]
+
+ghost use Rattle.std.specs.Prelude.{◌≡◌, ◌∷◌, [], IfOk, MatchOption, OnOk, is_some, map, true};
+ghost use Rattle.std.specs.List.{filter_map, flat_map};
+ghost use Rattle.cond.specs.Conditions.{Breaks, IsAdded};
+ghost use Rattle.cond.specs.Conjunctions.{verdicts_on};
+ghost use Rattle.cond.specs.Faults.{number_of};
 ghost use Rattle.serde_json.specs.View.{view};
-ghost use Rattle.play_rules.specs.Breaches.{Spot};
-ghost use Rattle.play_rules.specs.Conditions.{checks_at, clauses_at};
-ghost use Rattle.play_rules.specs.Keys.{when_key, changed_key, failed_key};
-ghost use Rattle.play_rules.specs.Steps.{condition_checks};
-ghost use Rattle.play_rules.specs.Checks.{AllKept};
+ghost use Rattle.play_rules.specs.Breaches.{Asked, Broken, where_given};
+ghost use Rattle.play_rules.specs.Checks.{AllKept, IsCondition};
+ghost use Rattle.play_rules.specs.Conditions as spec;
 ghost use Rattle.play_rules.specs.Faults.{key_name};
-ghost use Rattle.play_rules.specs.Paths.{below, element_or, under};
-ghost use Rattle.play_read.specs.Says.{Says, named_at};
-ghost use Rattle.play_read.specs.Readings.{named_in, IsFlawAt};
+ghost use Rattle.play_rules.specs.Paths.{under};
+ghost use Rattle.play_rules.specs.Places.{path_at, spot_of};
+ghost use Rattle.play_rules.specs.Told.{Adds};
+ghost use Rattle.play_read.specs.Says.{Gathers, IsMore, Says, SaysUnder};
 
-use crate::condition_flaw::ConditionFlaw;
-use crate::condition_reading::read_condition;
-use crate::held::put;
-use crate::step_flaw::StepFlaw;
-use cond::Cond;
-use play_model::Step;
-use play_rules::{Below, ConditionKey, Flaw};
+use crate::clause::{Clause, clause_of, clauses_listed};
+use cond::{Cond, CondFault, Conjunction};
+use play_rules::{ConditionKey, FaultCollector, Place, Test, check_entries};
 use serde_json::Value;
-use std::alloc::Global;
+use std::alloc::{AllocError, Global};
 
-/// Reads the conditions of a step into it, each parsed once.
-pub(crate) fn read_conditions<'a>(
-    alloc: Global,
-    step: &'a Value,
-    into: &mut Step,
-) -> Result<(), StepFlaw<'a>>
-    ensures kept { (spot : Spot) → IfOk result (λ _. AllKept (condition_checks spot (view step.now))) }
-    ensures when { OnOk result (Says (clauses_at when_key (view step.now)) into.new.when) }
-    ensures changed_when { OnOk result (Says (clauses_at changed_key (view step.now)) into.new.changed_when) }
-    ensures failed_when { OnOk result (Says (clauses_at failed_key (view step.now)) into.new.failed_when) }
-    ensures name { into.new.name ≡ into.old.name }
-    ensures words { into.new.words ≡ into.old.words }
-    ensures register { into.new.register ≡ into.old.register }
-    ensures notify { into.new.notify ≡ into.old.notify }
-    ensures err { (spot : Spot) → IfErr result (λ flaw. IsFlawAt spot flaw (condition_checks spot (view step.now))) }
-{
-    read_one(alloc, ConditionKey::When, step, &mut into.when)?;
-    read_one(
-        alloc,
-        ConditionKey::ChangedWhen,
-        step,
-        &mut into.changed_when,
-    )?;
-    read_one(alloc, ConditionKey::FailedWhen, step, &mut into.failed_when)
-}
-
-fn read_one<'a>(
-    alloc: Global,
+/// The condition under a key of a step: the texts and truth values that it lists, joined by `and`; none where the key is
+/// missing, null or an empty list. The shapes of all parts come before the texts that are no conditions.
+pub(crate) fn read_condition(
+    faults: &mut FaultCollector,
+    place: Place,
     key: ConditionKey,
-    step: &'a Value,
-    into: &mut Option<Cond>,
-) -> Result<(), StepFlaw<'a>>
-    ensures kept { (spot : Spot) → IfOk result (λ _. AllKept (checks_at spot (key_name key) (view step.now))) }
-    ensures says { OnOk result (Says (clauses_at (key_name key) (view step.now)) into.new) }
-    ensures err { (spot : Spot) → IfErr result (λ flaw. IsFlawAt spot flaw (checks_at spot (key_name key) (view step.now))) }
+    step: &Value,
+) -> Result<Option<Cond>, AllocError>
+    ensures found { OnOk result (Adds (path_at place) faults.old faults.new (spec.checks_at (spot_of place) (key_name key) (view step.now))) }
+    ensures says { IfOk result (SaysUnder (spot_of place) (key_name key) (view step.now)) }
 {
-    match read_condition(alloc, key, step) {
-        Ok(condition) => {
-            put(into, condition);
-            Ok(())
-        }
-        Err(flaw) => Err(seen_from_step(key, flaw)),
+    match step.get(key.name()) {
+        Some(value) => read_given(faults, place, key, value),
+        None => Ok(None),
     }
 }
 
-fn seen_from_step<'a>(key: ConditionKey, flaw: ConditionFlaw) -> StepFlaw<'a>
-    ensures { (spot : Spot) → named_in spot result ≡ named_at spot (key_name key) flaw }
+// Apart, so that a step without the key doesn't pay for what it needs.
+#[inline(never)]
+fn read_given(
+    faults: &mut FaultCollector,
+    place: Place,
+    key: ConditionKey,
+    value: &Value,
+) -> Result<Option<Cond>, AllocError>
+    ensures found { OnOk result (Adds (path_at place) faults.old faults.new (spec.checks_of (spot_of place) (key_name key) (view value.now))) }
+    ensures says { IfOk result (λ tree. AllKept (spec.checks_of (spot_of place) (key_name key) (view value.now)) → Says (spec.clauses_of (view value.now)) tree) }
 {
+    check_shapes(faults, place, key, value)?;
+    let list = clauses_listed(value);
+    let all = gather(faults, place, key, list)?;
+    if list.is_empty() {
+        return Ok(None);
+    }
+    Ok(Some(all.finish()))
+}
+
+/// Checks that each part is a text or a truth value.
+fn check_shapes(
+    faults: &mut FaultCollector,
+    place: Place,
+    key: ConditionKey,
+    value: &Value,
+) -> Result<(), AllocError>
+    ensures { OnOk result (Adds (path_at place) faults.old faults.new (map Broken (spec.bad_clauses (under [] (key_name key)) (view value.now)))) }
+{
+    if value.is_null() {
+        return Ok(());
+    }
+    check_entries(faults, place, Test::Clause, key.name(), value)
+}
+
+/// The parts that a list gives, joined by `and`; what is neither a text nor a truth value is passed over.
+fn gather(
+    faults: &mut FaultCollector,
+    place: Place,
+    key: ConditionKey,
+    list: &[Value],
+) -> Result<Conjunction, AllocError>
+    ensures found { OnOk result (Adds (path_at place) faults.old faults.new (flat_map (spec.asked_of (spot_of place) (key_name key)) (filter_map spec.clause_of (map view list.now)))) }
+    ensures says { IfOk result (λ all. AllKept (flat_map (spec.asked_of (spot_of place) (key_name key)) (filter_map spec.clause_of (map view list.now))) → Gathers (filter_map spec.clause_of (map view list.now)) all) }
+{
+    let mut all = Conjunction::with_capacity(faults.alloc(), list.len())?;
+    for value in list {
+        join(faults, place, key, &mut all, value)?;
+    }
+    Ok(all)
+}
+
+fn join(
+    faults: &mut FaultCollector,
+    place: Place,
+    key: ConditionKey,
+    all: &mut Conjunction,
+    value: &Value,
+) -> Result<(), AllocError>
+    ensures found { OnOk result (Adds (path_at place) faults.old faults.new (where_given (spec.asked_of (spot_of place) (key_name key)) (spec.clause_of (view value.now)))) }
+    ensures says { OnOk result (AllKept (where_given (spec.asked_of (spot_of place) (key_name key)) (spec.clause_of (view value.now))) → IsMore (spec.clause_of (view value.now)) all.old all.new) }
+{
+    match clause_of(value) {
+        Some(Clause::Truth(truth)) => all.add_truth(truth),
+        Some(Clause::Text(text)) => join_text(faults, place, key, all, text),
+        None => Ok(()),
+    }
+}
+
+fn join_text(
+    faults: &mut FaultCollector,
+    place: Place,
+    key: ConditionKey,
+    all: &mut Conjunction,
+    text: &str,
+) -> Result<(), AllocError>
+    ensures found { OnOk result (Adds (path_at place) faults.old faults.new (Asked (spot_of place) (key_name key) text.now ∷ [])) }
+    ensures says { OnOk result (IsCondition text.now → IsAdded text.now (verdicts_on all.old) (verdicts_on all.new)) }
+{
+    let flaw = add_text(faults.alloc(), all, text)?;
     match flaw {
-        ConditionFlaw::BadShape(place) => StepFlaw::Rule(Flaw::BadShape(below_key(key, place))),
-        ConditionFlaw::Bad(fault) => StepFlaw::Condition(key, fault),
+        Some(fault) => faults.add_condition(place, key, fault),
+        None => Ok(()),
     }
 }
 
-fn below_key<'a>(key: ConditionKey, place: Option<usize>) -> Below<'a>
-    ensures { below [] result ≡ element_or (under [] (key_name key)) place }
+/// What is wrong with a text that has to be a condition; where nothing is, it is joined to the others.
+fn add_text(
+    alloc: Global,
+    all: &mut Conjunction,
+    text: &str,
+) -> Result<Option<CondFault>, AllocError>
+    ensures { IfOk result (λ flaw. MatchOption flaw (IsAdded text.now (verdicts_on all.old) (verdicts_on all.new))
+        (λ fault. Breaks fault text.now × (is_some (number_of fault) ≡ true) × (IsCondition text.now → ⊥))) }
 {
-    match place {
-        Some(index) => Below::Element(key.name(), index),
-        None => Below::Key(key.name()),
+    match all.add(alloc, text) {
+        Ok(()) => Ok(None),
+        Err(CondFault::Memory) => Err(AllocError),
+        Err(fault) => Ok(Some(fault)),
     }
 }

@@ -1,23 +1,21 @@
 //! From the value of a text to its plays.
-ghost use Rattle.std.specs.Prelude.{◌≡◌, ◌∷◌, ◌+◌, ◌≤◌, ◌<◌, [], Some, map, length, nat_lt, IfOk, IfErr};
+#![tactic(auto, using(play_rules::proofs::AddLaws::findings_in_turn))]
+
+ghost use Rattle.std.specs.Prelude.{◌≡◌, ◌+◌, ◌<◌, [], IfOk, OnOk, map, length, nat_lt, true};
 ghost use Rattle.std.specs.List.{AllZip};
 ghost use Rattle.serde_json.specs.View.{view};
+ghost use Rattle.play_rules.specs.Breaches.{Broken};
 ghost use Rattle.play_rules.specs.Plays as spec;
-ghost use Rattle.play_rules.specs.Breaches.{BadShape};
-ghost use Rattle.play_rules.specs.Checks.{AllKept, rule};
-ghost use Rattle.play_rules.specs.Faults.{IsRefusal, named_of};
+ghost use Rattle.play_rules.specs.Told.{Adds};
+ghost use Rattle.play_rules.specs.ToldFaults.{is_silent};
 ghost use Rattle.play_read.specs.Reads.{IsPlay};
 
-use crate::place::PlayPlace;
 use crate::play::read_one;
 use play_model::Play;
-use play_rules::PlayFault;
+use play_rules::{Below, FaultCollector, Flaw, Place, PlayPlace};
 use serde_json::Value;
-use std::alloc::Global;
+use std::alloc::AllocError;
 use text_parts::elements_of;
-
-/// The most plays that a file has.
-pub const PLAYS_BOUND: usize = 16;
 
 fn listed(document: &Value) -> &[Value]
     ensures { map view result.now ≡ spec.plays_in (view document.now) }
@@ -28,59 +26,39 @@ fn listed(document: &Value) -> &[Value]
     }
 }
 
-/// The top value is no list, or is empty.
-fn bad_top(alloc: Global) -> PlayFault
-    ensures { named_of result ≡ Some (rule (BadShape [])) }
-{
-    PlayFault::BadShape {
-        at: String::new(alloc),
-    }
-}
-
-/// The plays of a document that may have 16.
-pub(crate) fn all_plays(alloc: Global, document: &Value) -> Result<Vec<Play>, PlayFault>
-    ensures kept { IfOk result (λ _. AllKept (spec.checks 16 (view document.now))) }
-    ensures says { IfOk result (λ plays. AllZip IsPlay (spec.plays_of (view document.now)) plays.items) }
-    ensures err { IfErr result (λ fault. IsRefusal fault (spec.checks 16 (view document.now))) }
+/// The plays of a document that may have so many. Of too many nothing is told.
+pub(crate) fn read_document(
+    faults: &mut FaultCollector,
+    document: &Value,
+    most: usize,
+) -> Result<Vec<Play>, AllocError>
+    ensures found { OnOk result (Adds [] faults.old faults.new (spec.checks most (view document.now))) }
+    ensures says { IfOk result (λ plays. is_silent faults.new ≡ true → AllZip IsPlay (spec.plays_of (view document.now)) plays.items) }
 {
     let plays = listed(document);
-    if plays.is_empty() {
-        return Err(bad_top(alloc));
+    check_number(faults, plays.len(), most)?;
+    if plays.len() > most {
+        return Ok(Vec::new(faults.alloc()));
     }
-    if plays.len() > PLAYS_BOUND {
-        return Err(PlayFault::ManyPlays);
-    }
-    read_each(alloc, plays)
+    read_each(faults, plays)
 }
 
-/// The play of a document that may have one.
-pub(crate) fn only_play(alloc: Global, document: &Value) -> Result<Play, PlayFault>
-    ensures kept { IfOk result (λ _. AllKept (spec.checks 1 (view document.now))) }
-    ensures says { IfOk result (λ play. AllZip IsPlay (spec.plays_of (view document.now)) (play ∷ [])) }
-    ensures err { IfErr result (λ fault. IsRefusal fault (spec.checks 1 (view document.now))) }
+fn check_number(faults: &mut FaultCollector, plays: usize, most: usize) -> Result<(), AllocError>
+    ensures { OnOk result (Adds [] faults.old faults.new (map Broken (spec.bad_number most plays))) }
 {
-    let plays = listed(document);
-    let Some((play, others)) = plays.split_first() else {
-        return Err(bad_top(alloc));
-    };
-    if !others.is_empty() {
-        return Err(PlayFault::ManyPlays);
-    }
-    read_one(alloc, place_of(0, 1), play)
+    faults.check(plays > 0, Place::Top, Flaw::BadShape(Below::Itself))?;
+    faults.check(plays <= most, Place::Top, Flaw::ManyPlays)?;
+    Ok(())
 }
 
-fn read_each(alloc: Global, plays: &[Value]) -> Result<Vec<Play>, PlayFault>
-    requires { length plays.now ≤ 16 }
-    ensures kept { IfOk result (λ _. AllKept (spec.checks_of_plays (nat_lt 1 (length plays.now)) 0 (map view plays.now))) }
-    ensures says { IfOk result (λ read. AllZip IsPlay (map spec.play_of (map view plays.now)) read.items) }
-    ensures err { IfErr result (λ fault. IsRefusal fault (spec.checks_of_plays (nat_lt 1 (length plays.now)) 0 (map view plays.now))) }
+fn read_each(faults: &mut FaultCollector, plays: &[Value]) -> Result<Vec<Play>, AllocError>
+    ensures found { OnOk result (Adds [] faults.old faults.new (spec.checks_of_plays (nat_lt 1 (length plays.now)) 0 (map view plays.now))) }
+    ensures says { IfOk result (λ read. is_silent faults.new ≡ true → AllZip IsPlay (map spec.play_of (map view plays.now)) read.items) }
 {
-    let mut read = Vec::with_capacity(alloc, plays.len())?;
+    let mut read = Vec::with_capacity(faults.alloc(), plays.len())?;
     for index in 0..plays.len() {
-        match read_one(alloc, place_of(index, plays.len()), &plays[index]) {
-            Ok(play) => read.push(play)?,
-            Err(fault) => return Err(fault),
-        }
+        let place = place_of(index, plays.len());
+        read_one(faults, place, &plays[index], &mut read)?;
     }
     Ok(read)
 }

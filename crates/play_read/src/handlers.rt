@@ -1,90 +1,79 @@
 //! The handlers of a play.
-ghost use Rattle.std.specs.Prelude.{◌≡◌, ◌∷◌, ◌+◌, ◌++◌, ◌≤◌, [], All, IfOk, IfErr, OnOk, length, map};
+#![tactic(auto, using(play_rules::proofs::AddLaws::findings_in_turn))]
+
+ghost use Rattle.std.specs.Prelude.{◌≡◌, ◌∷◌, ◌+◌, ◌++◌, ◌≤◌, [], IfOk, OnOk, length, map};
 ghost use Rattle.std.specs.List.{filter_map};
 ghost use Rattle.serde_json.specs.View.{view};
-ghost use Rattle.play_model.specs.Plays.{HasPlainWords, NotifiesNobody};
-ghost use Rattle.play_rules.specs.Breaches.{Broken, all_in};
-ghost use Rattle.play_rules.specs.Plays.{spot_at, checks_of_handlers};
-ghost use Rattle.play_rules.specs.Steps as spec;
+ghost use Rattle.play_rules.specs.Breaches.{Broken};
 ghost use Rattle.play_rules.specs.Checks.{AllKept};
-ghost use Rattle.play_rules.specs.Faults.{IsRefusal};
+ghost use Rattle.play_rules.specs.Known.{known};
+ghost use Rattle.play_rules.specs.Names.{once};
+ghost use Rattle.play_rules.specs.Places.{path_at, play_path, step_path, step_spot};
+ghost use Rattle.play_rules.specs.Plays.{checks_of_handlers};
+ghost use Rattle.play_rules.specs.Steps as spec;
+ghost use Rattle.play_rules.specs.Told.{Adds};
+ghost use Rattle.play_rules.specs.declared.place.StepList.TheVariants as list;
 ghost use Rattle.play_read.specs.Readings.{IsStep};
-ghost use Rattle.play_read.specs.Known.{known};
-ghost use Rattle.play_read.specs.Places.{play_path, step_path};
 ghost use Rattle.play_read.specs.Reads.{AreSteps};
 
-use crate::faults::fault_of_step;
-use crate::names::HandlerNames;
-use crate::place::{PlayPlace, StepList, StepPlace};
-use crate::step_reading::{blank_step, fill_handler};
+use crate::step::{blank_step, read_step};
 use play_model::Step;
-use play_rules::{PlayFault, name_in};
+use play_rules::{FaultCollector, Flaw, NameList, Place, PlayPlace, StepList, StepPlace, name_in};
 use serde_json::Value;
-use std::alloc::Global;
+use std::alloc::AllocError;
 
-/// Whether no handler before this one has its name, which is known from then on.
+/// Checks that no handler before this one has its name, which is known from then on.
 fn check_name<'a>(
-    alloc: Global,
+    faults: &mut FaultCollector,
+    place: Place,
     handler: &'a Value,
-    names: &mut HandlerNames<'a>,
-) -> Result<(), PlayFault>
-    ensures ok { IfOk result (λ _. spec.twice_named (known names.old) (view handler.now) ≡ []) }
-    ensures names { OnOk result (known names.new ≡ known names.old ++ filter_map spec.name_in (view handler.now ∷ [])) }
-    ensures err { IfErr result (λ fault. IsRefusal fault (map Broken (spec.twice_named (known names.old) (view handler.now)))) }
+    names: &mut NameList<'a>,
+) -> Result<(), AllocError>
+    ensures found { OnOk result (Adds (path_at place) faults.old faults.new (map Broken (spec.twice_named (known names.old) (view handler.now)))) }
+    ensures names { OnOk result (known names.new ≡ known names.old ++ once (known names.old) (filter_map spec.name_in (view handler.now ∷ []))) }
 {
     let Some(name) = name_in(handler) else {
         return Ok(());
     };
-    if names.add(name)? {
-        Ok(())
-    } else {
-        Err(PlayFault::TwiceHandler {
-            name: String::from_str(alloc, name)?,
-        })
-    }
+    let is_new = names.add(name)?;
+    faults.check(is_new, place, Flaw::TwiceHandler(name))
 }
 
 /// Reads a handler into a step that notifies nobody, and then whether its name stood before.
 fn read_one<'a>(
-    alloc: Global,
+    faults: &mut FaultCollector,
     place: StepPlace,
     handler: &'a Value,
-    names: &mut HandlerNames<'a>,
+    names: &mut NameList<'a>,
     into: &mut Step,
-) -> Result<(), PlayFault>
-    requires { into.old.notify.items ≡ [] }
-    ensures kept { IfOk result (λ _. AllKept (spec.checks_of_handler (spot_at place.play.told place.number) (view handler.now))) }
-    ensures once { IfOk result (λ _. spec.twice_named (known names.old) (view handler.now) ≡ []) }
-    ensures names { OnOk result (known names.new ≡ known names.old ++ filter_map spec.name_in (view handler.now ∷ [])) }
-    ensures says { OnOk result (IsStep (spec.handler_of (view handler.now)) into.new) }
-    ensures plain { OnOk result (HasPlainWords into.new) }
-    ensures err { IfErr result (λ fault. IsRefusal fault (all_in (step_path place) (spec.checks_of_handler (spot_at place.play.told place.number) (view handler.now))
-        ++ map Broken (spec.twice_named (known names.old) (view handler.now)))) }
+) -> Result<(), AllocError>
+    requires silent { into.old.notify.items ≡ [] }
+    requires handler { place.list ≡ list.Handlers }
+    ensures found { OnOk result (Adds (step_path place) faults.old faults.new (spec.checks_of_handler (known names.old) (step_spot place) (view handler.now))) }
+    ensures names { OnOk result (known names.new ≡ known names.old ++ once (known names.old) (filter_map spec.name_in (view handler.now ∷ []))) }
+    ensures says { OnOk result (AllKept (spec.checks_of_handler (known names.old) (step_spot place) (view handler.now)) → IsStep (spec.handler_of (view handler.now)) into.new) }
 {
-    match fill_handler(alloc, handler, into) {
-        Ok(()) => check_name(alloc, handler, names),
-        Err(flaw) => Err(fault_of_step(alloc, place, flaw)?),
-    }
+    read_step(faults, place, handler, into)?;
+    check_name(faults, Place::OfStep(place), handler, names)?;
+    Ok(())
 }
 
-/// The handlers of a play with so many tasks, and their names. Of several faults the first is told; after each handler
-/// comes whether its name stood before.
+/// The handlers of a play with so many tasks, and their names.
 pub(crate) fn read_handlers<'a>(
-    alloc: Global,
+    faults: &mut FaultCollector,
     play: PlayPlace,
     tasks: usize,
     handlers: &'a [Value],
-    names: &mut HandlerNames<'a>,
-) -> Result<Vec<Step>, PlayFault>
+    names: &mut NameList<'a>,
+) -> Result<Vec<Step>, AllocError>
     requires few { tasks + length handlers.now ≤ 256 }
     requires none { known names.old ≡ [] }
-    ensures kept { IfOk result (λ _. AllKept (checks_of_handlers (play_path play) play.told (tasks + 1) 0 [] (map view handlers.now))) }
-    ensures names { OnOk result (known names.new ≡ filter_map spec.name_in (map view handlers.now)) }
-    ensures says { IfOk result (λ steps. AreSteps (map spec.handler_of (map view handlers.now)) steps.items) }
-    ensures plain { IfOk result (λ steps. All HasPlainWords steps.items) }
-    ensures err { IfErr result (λ fault. IsRefusal fault (checks_of_handlers (play_path play) play.told (tasks + 1) 0 [] (map view handlers.now))) }
+    ensures found { OnOk result (Adds [] faults.old faults.new (checks_of_handlers (play_path play) play.told (tasks + 1) 0 [] (map view handlers.now))) }
+    ensures names { OnOk result (known names.new ≡ once [] (filter_map spec.name_in (map view handlers.now))) }
+    ensures says { IfOk result (λ steps. AllKept (checks_of_handlers (play_path play) play.told (tasks + 1) 0 [] (map view handlers.now)) → AreSteps (map spec.handler_of (map view handlers.now)) steps.items) }
+    ensures many { IfOk result (λ steps. length steps.items ≡ length handlers.now) }
 {
-    let mut steps = Vec::with_capacity(alloc, handlers.len())?;
+    let mut steps = Vec::with_capacity(faults.alloc(), handlers.len())?;
     for index in 0..handlers.len() {
         let place = StepPlace {
             play,
@@ -92,12 +81,12 @@ pub(crate) fn read_handlers<'a>(
             index,
             number: tasks + 1 + index,
         };
-        let mut step = blank_step(alloc);
-        match read_one(alloc, place, &handlers[index], names, &mut step) {
+        let mut step = blank_step(faults.alloc());
+        match read_one(faults, place, &handlers[index], names, &mut step) {
             Ok(()) => steps.push(step)?,
-            Err(fault) => {
+            Err(refused) => {
                 drop(step);
-                return Err(fault);
+                return Err(refused);
             }
         }
     }

@@ -1,28 +1,102 @@
 //! The handlers that a task notifies.
-ghost use Rattle.std.specs.Prelude.{◌≡◌, ◌++◌, ◌<◌, [], All, IfOk, IfErr, filter, length, map};
+#![tactic(auto, using(play_rules::proofs::AddLaws::findings_in_turn))]
+
+ghost use Rattle.std.specs.Prelude.{◌≡◌, ◌∷◌, ◌++◌, [], IfOk, OnOk, filter, map};
 ghost use Rattle.std.specs.List.{filter_map};
 ghost use Rattle.serde_json.specs.Find.{as_str};
 ghost use Rattle.serde_json.specs.View.{view};
 ghost use Rattle.play_rules.specs.Breaches.{Broken, NoSuchHandler};
+ghost use Rattle.play_rules.specs.Known.{known, texts};
+ghost use Rattle.play_rules.specs.Names.{once, place_of};
+ghost use Rattle.play_rules.specs.Places.{path_at};
 ghost use Rattle.play_rules.specs.Steps as spec;
-ghost use Rattle.play_rules.specs.Faults.{IsRefusal};
-ghost use Rattle.play_read.specs.Known.{known, texts};
+ghost use Rattle.play_rules.specs.Told.{Adds};
 
-use crate::names::HandlerNames;
-use play_rules::PlayFault;
+use play_rules::{FaultCollector, Flaw, NameList, Place, read_notify};
 use serde_json::Value;
-use std::alloc::Global;
+use std::alloc::{AllocError, Global};
 
-/// The numbers, from 0, of the handlers of these names, in the order in which they are named. The first name that is no
-/// handler's refuses them.
-pub(crate) fn numbers_of(
-    alloc: Global,
+/// The names of a play's handlers.
+#[derive(Drop)]
+pub(crate) struct Handlers<'a> {
+    pub names: NameList<'a>,
+    /// Where `handlers` can't be read, none is missing.
+    pub readable: bool,
+}
+
+/// The numbers, from 0, of the handlers that a task notifies, in the order in which it names them. Each name that is no
+/// handler's is told once.
+pub(crate) fn read_notified(
+    faults: &mut FaultCollector,
+    place: Place,
+    task: &Value,
+    handlers: &Handlers<'_>,
+) -> Result<Vec<usize>, AllocError>
+    ensures found { OnOk result (Adds (path_at place) faults.old faults.new (map Broken (spec.bad_notify (view task.now)) ++ map Broken (spec.missing_handlers handlers.now.readable (known handlers.now.names) (view task.now)))) }
+    ensures says { IfOk result (λ numbers. numbers.items ≡ filter_map (place_of (known handlers.now.names)) (spec.notified_in (view task.now))) }
+{
+    let names = read_notify(faults, place, task)?;
+    check_missing(faults, place, handlers, names)?;
+    numbers_of(faults.alloc(), &handlers.names, names)
+}
+
+fn check_missing(
+    faults: &mut FaultCollector,
+    place: Place,
+    handlers: &Handlers<'_>,
     names: &[Value],
-    handlers: &HandlerNames<'_>,
-) -> Result<Vec<usize>, PlayFault>
-    ensures kept { IfOk result (λ _. filter (spec.is_missing (known handlers.now)) (texts names.now) ≡ []) }
-    ensures numbers { IfOk result (λ numbers. numbers.items ≡ filter_map (spec.place_of (known handlers.now)) (texts names.now)) }
-    ensures err { IfErr result (λ fault. IsRefusal fault (map Broken (map NoSuchHandler (filter (spec.is_missing (known handlers.now)) (texts names.now))))) }
+) -> Result<(), AllocError>
+    ensures { OnOk result (Adds (path_at place) faults.old faults.new (map Broken (if handlers.now.readable then spec.missing_names (known handlers.now.names) (texts names.now) else []))) }
+{
+    if handlers.readable {
+        check_each(faults, place, &handlers.names, names)
+    } else {
+        Ok(())
+    }
+}
+
+fn check_each(
+    faults: &mut FaultCollector,
+    place: Place,
+    handlers: &NameList<'_>,
+    names: &[Value],
+) -> Result<(), AllocError>
+    ensures { OnOk result (Adds (path_at place) faults.old faults.new (map Broken (spec.missing_names (known handlers.now) (texts names.now)))) }
+{
+    let mut before = NameList::new(faults.alloc());
+    for name in names {
+        check_one(faults, place, handlers, &mut before, name)?;
+    }
+    Ok(())
+}
+
+/// A name that is no handler's, and that the task has named before, is told already.
+fn check_one<'a>(
+    faults: &mut FaultCollector,
+    place: Place,
+    handlers: &NameList<'_>,
+    before: &mut NameList<'a>,
+    name: &'a Value,
+) -> Result<(), AllocError>
+    ensures found { OnOk result (Adds (path_at place) faults.old faults.new (map Broken (map NoSuchHandler (once (known before.old) (filter (spec.is_missing (known handlers.now)) (filter_map as_str (view name.now ∷ []))))))) }
+    ensures names { OnOk result (known before.new ≡ known before.old ++ once (known before.old) (filter (spec.is_missing (known handlers.now)) (filter_map as_str (view name.now ∷ [])))) }
+{
+    let Some(name) = name.as_str() else {
+        return Ok(());
+    };
+    if handlers.has(name) {
+        return Ok(());
+    }
+    let is_new = before.add(name)?;
+    faults.check(!is_new, place, Flaw::NoSuchHandler(name))
+}
+
+fn numbers_of(
+    alloc: Global,
+    handlers: &NameList<'_>,
+    names: &[Value],
+) -> Result<Vec<usize>, AllocError>
+    ensures { IfOk result (λ numbers. numbers.items ≡ filter_map (place_of (known handlers.now)) (texts names.now)) }
 {
     let mut numbers = Vec::with_capacity(alloc, names.len())?;
     for value in names {
@@ -30,9 +104,7 @@ pub(crate) fn numbers_of(
             continue;
         };
         let Some(number) = handlers.place_of(name) else {
-            return Err(PlayFault::NoSuchHandler {
-                name: String::from_str(alloc, name)?,
-            });
+            continue;
         };
         numbers.push(number)?;
     }

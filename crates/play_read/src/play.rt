@@ -1,76 +1,186 @@
 //! A play, whole.
-ghost use Rattle.std.specs.Prelude.{◌≡◌, [], All, IfErr, IfOk, map};
+#![tactic(auto, using(play_rules::proofs::AddLaws::findings_in_turn))]
+
+ghost use Rattle.std.specs.Prelude.{◌≡◌, ◌+◌, ◌++◌, ◌∷◌, ◌≤◌, [], IfOk, OnOk, length, map, nat_le, true};
+ghost use Rattle.serde_json.specs.Find.{get};
 ghost use Rattle.serde_json.specs.View.{view};
-ghost use Rattle.play_rules.specs.Breaches.{Broken, all_in};
-ghost use Rattle.play_rules.specs.Plays as spec;
-ghost use Rattle.play_rules.specs.Steps.{handler_of, step_of};
-ghost use Rattle.play_model.specs.Plays.{HasPlainWords};
+ghost use Rattle.play_model.specs.declared.play.Play.{Play};
+ghost use Rattle.play_rules.specs.Breaches.{all_in};
 ghost use Rattle.play_rules.specs.Checks.{AllKept};
-ghost use Rattle.play_rules.specs.Faults.{IsRefusal};
-ghost use Rattle.play_rules.specs.declared.fault.PlayFault.TheVariants.{Memory};
-ghost use Rattle.play_read.specs.Places.{play_path};
-ghost use Rattle.play_read.specs.Reads.{AreSteps, IsPlay};
+ghost use Rattle.play_rules.specs.Keys.{tasks_key};
+ghost use Rattle.play_rules.specs.Paths.{below, given_path};
+ghost use Rattle.play_rules.specs.Places.{path_at, play_path};
+ghost use Rattle.play_rules.specs.Plays as spec;
+ghost use Rattle.play_rules.specs.Told.{Adds};
+ghost use Rattle.play_rules.specs.ToldFaults.{is_silent};
+ghost use Rattle.play_read.specs.PlayParts.{AreStepsOf, IsSettings};
+ghost use Rattle.play_read.specs.Reads.{IsPlay};
 
-use crate::faults::fault_of_play;
 use crate::handlers::read_handlers;
-use crate::names::HandlerNames;
-use crate::place::PlayPlace;
-use crate::play_shape::check_play;
-use crate::steps::{handlers_of, tasks_of};
+use crate::notified::Handlers;
+use crate::steps::{are_readable, handlers_of, tasks_of};
 use crate::tasks::read_tasks;
-use play_model::{Play, Step};
-use play_rules::{PlayFault, mode_in, pattern_in, percent_in, sizes_in};
+use group_tree::Percentage;
+use play_model::{OnBlocked, Play, STEPS_BOUND, Size, Step};
+use play_rules::{
+    Below, FaultCollector, Flaw, Keys, NameList, Place, PlayPlace, check_keys, read_mode,
+    read_pattern, read_percent, read_sizes,
+};
 use serde_json::Value;
-use std::alloc::Global;
+use std::alloc::AllocError;
 
-fn check_settings(alloc: Global, place: PlayPlace, play: &Value) -> Result<(), PlayFault>
-    ensures ok { IfOk result (λ _. spec.bad_settings (view play.now) ≡ []) }
-    ensures err { IfErr result (λ fault. IsRefusal fault (all_in (play_path place) (map Broken (spec.bad_settings (view play.now))))) }
+/// What a play says apart from its steps.
+#[derive(Drop)]
+pub(crate) struct Settings {
+    pattern: String,
+    sizes: Vec<Size>,
+    max_fail: Option<Percentage>,
+    on_blocked: OnBlocked,
+}
+
+/// Its steps.
+#[derive(Drop)]
+pub(crate) struct Steps {
+    tasks: Vec<Step>,
+    handlers: Vec<Step>,
+}
+
+/// Adds the play that a value says to the others, where nothing was found, neither before nor in it. Of a value that is no
+/// object nothing else is told.
+pub(crate) fn read_one(
+    faults: &mut FaultCollector,
+    place: PlayPlace,
+    play: &Value,
+    plays: &mut Vec<Play>,
+) -> Result<(), AllocError>
+    ensures found { OnOk result (Adds [] faults.old faults.new (spec.checks_of_play (play_path place) place.told (view play.now))) }
+    ensures says { OnOk result (is_silent faults.new ≡ true → (read : Play) × IsPlay (spec.play_of (view play.now)) read × (plays.new.items ≡ plays.old.items ++ read ∷ [])) }
 {
-    match check_play(play) {
-        Ok(()) => Ok(()),
-        Err(flaw) => Err(fault_of_play(alloc, place, flaw)?),
+    if !play.is_object() {
+        return faults.add(Place::OfPlay(place), Flaw::BadShape(Below::Itself));
+    }
+    read_object(faults, place, play, plays)
+}
+
+/// Its settings come first, then its handlers, then its tasks. Of too many steps nothing is told.
+fn read_object(
+    faults: &mut FaultCollector,
+    place: PlayPlace,
+    play: &Value,
+    plays: &mut Vec<Play>,
+) -> Result<(), AllocError>
+    ensures found { OnOk result (Adds [] faults.old faults.new (all_in (play_path place) (spec.checks_of_front (view play.now)) ++ spec.checks_of_counted (play_path place) place.told (view play.now))) }
+    ensures says { OnOk result (is_silent faults.new ≡ true → (read : Play) × IsPlay (spec.play_of (view play.now)) read × (plays.new.items ≡ plays.old.items ++ read ∷ [])) }
+{
+    let settings = read_front(faults, Place::OfPlay(place), play)?;
+    if !has_few_steps(play) {
+        return faults.add(Place::OfPlay(place), Flaw::TooManySteps);
+    }
+    let steps = read_steps(faults, place, play)?;
+    if !faults.is_empty() {
+        return Ok(());
+    }
+    let read = Play::new(
+        settings.pattern,
+        settings.sizes,
+        settings.max_fail,
+        settings.on_blocked,
+        steps.tasks,
+        steps.handlers,
+    )?;
+    plays.push(read)?;
+    Ok(())
+}
+
+/// What a play says apart from its steps, and whether it has any that can be read.
+fn read_front(
+    faults: &mut FaultCollector,
+    place: Place,
+    play: &Value,
+) -> Result<Settings, AllocError>
+    ensures found { OnOk result (Adds (path_at place) faults.old faults.new (spec.checks_of_front (view play.now))) }
+    ensures says { IfOk result (IsSettings (view play.now)) }
+{
+    check_keys(faults, place, Keys::Play, play)?;
+    let settings = read_settings(faults, place, play)?;
+    check_lists(faults, place, play)?;
+    Ok(settings)
+}
+
+fn read_settings(
+    faults: &mut FaultCollector,
+    place: Place,
+    play: &Value,
+) -> Result<Settings, AllocError>
+    ensures found { OnOk result (Adds (path_at place) faults.old faults.new (spec.checks_of_settings (view play.now))) }
+    ensures says { IfOk result (IsSettings (view play.now)) }
+{
+    let pattern = read_pattern(faults, place, play)?;
+    let sizes = read_sizes(faults, place, play)?;
+    let max_fail = read_percent(faults, place, play)?;
+    let on_blocked = read_mode(faults, place, play)?;
+    Ok(Settings {
+        pattern,
+        sizes,
+        max_fail,
+        on_blocked,
+    })
+}
+
+fn check_lists(faults: &mut FaultCollector, place: Place, play: &Value) -> Result<(), AllocError>
+    ensures { OnOk result (Adds (path_at place) faults.old faults.new (spec.checks_of_lists (view play.now))) }
+{
+    faults.check(
+        !tasks_of(play).is_empty(),
+        place,
+        Flaw::BadShape(place_of_tasks(play)),
+    )?;
+    faults.check(
+        are_readable(play),
+        place,
+        Flaw::BadShape(Below::Key("handlers")),
+    )?;
+    Ok(())
+}
+
+fn place_of_tasks<'a>(play: &Value) -> Below<'a>
+    ensures { below [] result ≡ given_path [] tasks_key (view play.now) }
+{
+    if play.get("tasks").is_some() {
+        Below::Key("tasks")
+    } else {
+        Below::Itself
     }
 }
 
-/// The play that a value says, or the first check of it that is not kept: those of its settings, then of its handlers,
-/// then of its tasks.
-pub(crate) fn read_one(alloc: Global, place: PlayPlace, play: &Value) -> Result<Play, PlayFault>
-    ensures kept { IfOk result (λ _. AllKept (spec.checks_of_play (play_path place) place.told (view play.now))) }
-    ensures says { IfOk result (IsPlay (spec.play_of (view play.now))) }
-    ensures err { IfErr result (λ fault. IsRefusal fault (spec.checks_of_play (play_path place) place.told (view play.now))) }
+fn has_few_steps(play: &Value) -> bool
+    ensures { result ≡ spec.has_few_steps (view play.now) }
 {
-    check_settings(alloc, place, play)?;
-    let tasks = tasks_of(play);
-    let mut names = HandlerNames::new(alloc);
-    let handlers = read_handlers(alloc, place, tasks.len(), handlers_of(play), &mut names)?;
-    let tasks = read_tasks(alloc, place, tasks, handlers.len(), &names)?;
-    play_with(alloc, play, tasks, handlers)
+    are_few(tasks_of(play).len(), handlers_of(play).len())
 }
 
-/// The play of these steps, with the settings that the value says.
-fn play_with(
-    alloc: Global,
-    play: &Value,
-    tasks: Vec<Step>,
-    handlers: Vec<Step>,
-) -> Result<Play, PlayFault>
-    requires settings { spec.bad_settings (view play.now) ≡ [] }
-    requires tasks { AreSteps (map (step_of (spec.handler_names (view play.now))) (spec.tasks_in (view play.now))) tasks.items }
-    requires handlers { AreSteps (map handler_of (spec.handlers_in (view play.now))) handlers.items }
-    requires plain_tasks { All HasPlainWords tasks.items }
-    requires plain_handlers { All HasPlainWords handlers.items }
-    ensures ok { IfOk result (IsPlay (spec.play_of (view play.now))) }
-    ensures err { IfErr result (λ fault. fault ≡ Memory) }
+fn are_few(tasks: usize, handlers: usize) -> bool
+    ensures { result ≡ nat_le (tasks + handlers) 256 }
 {
-    let pattern = pattern_in(alloc, play)?;
-    let sizes = sizes_in(alloc, play)?;
-    Ok(Play::new(
-        pattern,
-        sizes,
-        percent_in(play),
-        mode_in(play),
-        tasks,
-        handlers,
-    )?)
+    tasks <= STEPS_BOUND && handlers <= STEPS_BOUND - tasks
+}
+
+fn read_steps(
+    faults: &mut FaultCollector,
+    place: PlayPlace,
+    play: &Value,
+) -> Result<Steps, AllocError>
+    requires { length (spec.tasks_in (view play.now)) + length (spec.handlers_in (view play.now)) ≤ 256 }
+    ensures found { OnOk result (Adds [] faults.old faults.new (spec.checks_of_steps (play_path place) place.told (view play.now))) }
+    ensures says { IfOk result (λ steps. AllKept (spec.checks_of_steps (play_path place) place.told (view play.now)) → AreStepsOf (view play.now) steps) }
+{
+    let tasks = tasks_of(play);
+    let mut names = NameList::new(faults.alloc());
+    let handlers = read_handlers(faults, place, tasks.len(), handlers_of(play), &mut names)?;
+    let known = Handlers {
+        names,
+        readable: are_readable(play),
+    };
+    let tasks = read_tasks(faults, place, tasks, handlers.len(), &known)?;
+    Ok(Steps { tasks, handlers })
 }

@@ -1,28 +1,93 @@
-//! From the bytes of a text to its plays.
-ghost use Rattle.std.specs.Prelude.{◌≡◌, ◌⊎◌, ◌∷◌, [], Some, None, IfOk, IfErr, IsUtf8};
+//! From the bytes of a text to its plays, or to its faults.
+ghost use Rattle.std.specs.Prelude.{◌≡◌, ◌∷◌, [], Some, IfOk, IfErr, IsUtf8, MatchOption, MatchResult, true};
+ghost use Rattle.std.specs.List.{AllZip};
 ghost use Rattle.serde_json.specs.Read.{read};
 ghost use Rattle.serde_json.specs.View.{view};
 ghost use Rattle.text_parts.specs.Texts.{IsNoJson};
 ghost use Rattle.play_rules.specs.Breaches.{NotJson};
-ghost use Rattle.play_rules.specs.Checks.{rule};
-ghost use Rattle.play_rules.specs.Faults.{named_of};
-ghost use Rattle.play_read.specs.Reads.{IsReadAs, IsTrueOf};
+ghost use Rattle.play_rules.specs.Checks.{AllKept, rule};
+ghost use Rattle.play_rules.specs.Plays.{checks, plays_of};
+ghost use Rattle.play_rules.specs.Told.{Tells};
+ghost use Rattle.play_rules.specs.ToldFaults.{AreTold, is_empty};
+ghost use Rattle.play_read.specs.Reads.{AreFaultsOf, AreToldBy, IsPlay, IsReadAs, IsTrueOf};
 
-use crate::document::{all_plays, only_play};
+use crate::document::read_document;
 use play_model::Play;
-use play_rules::PlayFault;
+use play_rules::{FaultCollector, Flaw, Place, PlayFault, Told};
 use serde_json::Value;
-use std::alloc::Global;
+use std::alloc::{AllocError, Global};
 
-fn parse(alloc: Global, text: &[u8]) -> Result<Value, PlayFault>
-    ensures ok { IfOk result (λ document. IsUtf8 text.now × (read text.now ≡ Some (view document))) }
-    ensures err { IfErr result (λ fault. (named_of fault ≡ None) ⊎ ((named_of fault ≡ Some (rule NotJson)) × IsNoJson text.now)) }
+/// The most plays that a file has.
+const PLAYS_BOUND: usize = 16;
+
+/// The document of a text; none where the text is no JSON.
+fn parse(alloc: Global, text: &[u8]) -> Result<Option<Value>, AllocError>
+    ensures { IfOk result (λ found. MatchOption found (IsNoJson text.now)
+        (λ document. IsUtf8 text.now × (read text.now ≡ Some (view document)))) }
 {
     match Value::from_slice(alloc, text) {
-        Ok(document) => Ok(document),
-        Err(error) if error.is_memory() => Err(PlayFault::Memory),
-        Err(_) => Err(PlayFault::NotJson),
+        Ok(document) => Ok(Some(document)),
+        Err(error) if error.is_memory() => Err(AllocError),
+        Err(_) => Ok(None),
     }
+}
+
+/// The faults of a text that is no JSON.
+fn no_json(alloc: Global, most: usize) -> Result<Told, AllocError>
+    ensures { IfOk result (λ told. AreTold most (rule NotJson ∷ []) told) }
+{
+    let mut faults = FaultCollector::new(alloc, most);
+    faults.add(Place::Top, Flaw::NotJson)?;
+    Ok(faults.into_told())
+}
+
+/// The plays of a document, or its faults.
+fn plays_in(
+    alloc: Global,
+    document: &Value,
+    plays: usize,
+    most: usize,
+) -> Result<Result<Vec<Play>, Told>, AllocError>
+    ensures { IfOk result (λ reading. MatchResult reading
+        (λ read. AllKept (checks plays (view document.now)) × AllZip IsPlay (plays_of (view document.now)) read.items)
+        (AreToldBy (checks plays (view document.now)) most)) }
+{
+    let mut faults = FaultCollector::new(alloc, most);
+    let read = read_document(&mut faults, document, plays)?;
+    if faults.is_empty() {
+        return Ok(Ok(read));
+    }
+    Ok(Err(faults.into_told()))
+}
+
+/// The plays of a text that may have so many, or its faults.
+fn read_text(
+    alloc: Global,
+    text: &[u8],
+    plays: usize,
+    most: usize,
+) -> Result<Result<Vec<Play>, Told>, AllocError>
+    ensures { IfOk result (λ reading. MatchResult reading (λ read. IsReadAs plays text.now read.items) (AreFaultsOf plays text.now most)) }
+{
+    let found = parse(alloc, text)?;
+    match found {
+        Some(document) => plays_in(alloc, &document, plays, most),
+        None => Ok(Err(no_json(alloc, most)?)),
+    }
+}
+
+/// Reads a playbook of 1 to 16 plays, or finds its faults: at most `most` of them, and how many more there are. What only
+/// follows from another fault is not told: of a text that is no JSON, of too many plays, and of a play or a step that is no
+/// object that is told alone, of too many steps nothing else than that, and no handler is missing where `handlers` can't be
+/// read. It fails for want of memory alone.
+pub fn plays_or_faults(
+    alloc: Global,
+    text: &[u8],
+    most: usize,
+) -> Result<Result<Vec<Play>, Told>, AllocError>
+    ensures { IfOk result (λ reading. MatchResult reading (λ plays. IsReadAs 16 text.now plays.items) (AreFaultsOf 16 text.now most)) }
+{
+    read_text(alloc, text, PLAYS_BOUND, most)
 }
 
 /// Reads a playbook of 1 to 16 plays. A text whose checks are all kept is refused for want of memory alone; of several
@@ -31,8 +96,7 @@ pub fn read_plays(alloc: Global, text: &[u8]) -> Result<Vec<Play>, PlayFault>
     ensures ok { IfOk result (λ plays. IsReadAs 16 text.now plays.items) }
     ensures err { IfErr result (IsTrueOf 16 text.now) }
 {
-    let document = parse(alloc, text)?;
-    all_plays(alloc, &document)
+    plays_or_first(alloc, text, PLAYS_BOUND)
 }
 
 /// Reads a playbook of one play, as `read_plays` does; a second play is one too many.
@@ -40,6 +104,17 @@ pub fn read_play(alloc: Global, text: &[u8]) -> Result<Play, PlayFault>
     ensures ok { IfOk result (λ play. IsReadAs 1 text.now (play ∷ [])) }
     ensures err { IfErr result (IsTrueOf 1 text.now) }
 {
-    let document = parse(alloc, text)?;
-    only_play(alloc, &document)
+    let mut plays = plays_or_first(alloc, text, 1)?;
+    Ok(plays.swap_remove(0))
+}
+
+fn plays_or_first(alloc: Global, text: &[u8], plays: usize) -> Result<Vec<Play>, PlayFault>
+    ensures ok { IfOk result (λ read. IsReadAs plays text.now read.items) }
+    ensures err { IfErr result (IsTrueOf plays text.now) }
+{
+    let reading = read_text(alloc, text, plays, 1)?;
+    match reading {
+        Ok(read) => Ok(read),
+        Err(mut told) => Err(told.faults.swap_remove(0)),
+    }
 }

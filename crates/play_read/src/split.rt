@@ -9,7 +9,7 @@ use std::alloc::{AllocError, Global};
 
 /// The words of a text: it is split at runs of blanks (space, tab, line feed, carriage return), save between `{{` and the
 /// next `}}`. It fails for want of memory alone.
-pub fn split_words(alloc: Global, text: &str) -> Result<Words, AllocError>
+pub(crate) fn split_words(alloc: Global, text: &str) -> Result<Words, AllocError>
     ensures { IfOk result (λ words. words ≡ spec.split text.now) }
 {
     let tail = tail_of_last_closing(text.as_bytes());

@@ -1,14 +1,16 @@
 //! The lists `tasks` and `handlers` of a play.
 ghost use Rattle.std.specs.Prelude.{◌≡◌, [], map, unwrap_or};
+ghost use Rattle.serde_json.specs.Find.{get};
 ghost use Rattle.serde_json.specs.View.{view};
 ghost use Rattle.text_parts.specs.Shapes as shapes;
+ghost use Rattle.play_rules.specs.Keys.{handlers_key};
 ghost use Rattle.play_rules.specs.Plays as spec;
 
 use serde_json::Value;
 use text_parts::elements_of;
 
 /// The tasks of a play; none where `tasks` is missing or no list.
-pub fn tasks_of(play: &Value) -> &[Value]
+pub(crate) fn tasks_of(play: &Value) -> &[Value]
     ensures { map view result.now ≡ spec.tasks_in (view play.now) }
 {
     match play.get("tasks") {
@@ -18,7 +20,7 @@ pub fn tasks_of(play: &Value) -> &[Value]
 }
 
 /// The handlers of a play; none where `handlers` is missing or no list.
-pub fn handlers_of(play: &Value) -> &[Value]
+pub(crate) fn handlers_of(play: &Value) -> &[Value]
     ensures { map view result.now ≡ spec.handlers_in (view play.now) }
 {
     match play.get("handlers") {
@@ -33,5 +35,15 @@ fn elements(value: &Value) -> &[Value]
     match elements_of(value) {
         Some(list) => list,
         None => &[],
+    }
+}
+
+/// Whether `handlers`, where it is given, is null or a list.
+pub(crate) fn are_readable(play: &Value) -> bool
+    ensures { result ≡ spec.are_readable (get handlers_key (view play.now)) }
+{
+    match play.get("handlers") {
+        Some(handlers) => handlers.is_null() || elements_of(handlers).is_some(),
+        None => true,
     }
 }

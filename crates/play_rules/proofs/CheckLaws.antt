@@ -1,65 +1,68 @@
--- Lists of checks, one after another.
-use Rattle.std.proofs.Common.{◌≡◌, Some, None, Option, List, [], ◌∷◌, ◌++◌, ap, map, inl, inr}
-use Rattle.std.specs.Prelude.{⊤, MatchOption}
-use Rattle.play_rules.specs.Breaches.{Breach, Check, Broken, Asked, all_in, first_of}
-use Rattle.play_rules.specs.Checks.{Named, named_from, rule, AllKept, IsFirst}
-use Rattle.play_rules.specs.Faults.{named_of, IsRefusal}
+-- Lists of checks: which are kept, and what is told of the others.
+use Rattle.std.proofs.Common.{◌≡◌, ◌∙◌, List, [], ◌∷◌, ◌++◌, ap, sym, subst, map, inl, inr, refl, append_assoc, append-nil}
+use Rattle.play_rules.specs.Breaches.{Breach, Check, Broken, Asked, all_in}
+use Rattle.play_rules.specs.Checks.{Named, rule, condition, AllKept, IsFirst}
+use Rattle.play_rules.specs.Told.{IsToldBy, Tells}
 use Rattle.play_rules.specs.Paths.{Path}
-use Rattle.play_rules.specs.Laws.{KeptTogether, FirstOfWhole}
-use Rattle.play_rules.specs.declared.fault.PlayFault.{PlayFault}
 
-pub kept_together : KeptTogether
-kept_together [] others part rest = rest
-kept_together (Broken breach ∷ checks) others part rest = absurd part
-kept_together (Asked spot key text ∷ checks) others part rest = (part.0, kept_together checks others part.1 rest)
+pub kept_parts : (part rest : List Check) → AllKept (part ++ rest) → AllKept part × AllKept rest
+kept_parts [] rest kept = (tt, kept)
+kept_parts (Broken breach ∷ part) rest kept = absurd kept
+kept_parts (Asked spot key text ∷ part) rest kept =
+    let later = kept_parts part rest kept.1 in
+    ((kept.0, later.0), later.1)
 
--- the first of a part is the first of the whole, where nothing stands before it
-pub first_here : (named : Named) (part others : List Check) → IsFirst named part → IsFirst named (part ++ others)
-first_here named [] others is = absurd is
-first_here named (Broken breach ∷ part) others is = is
-first_here named (Asked spot key text ∷ part) others is =
-    elim is [ inl fault ↦ inl fault | inr later ↦ inr (later.0, first_here named part others later.1) ]
+pub kept_rules : (broken : List Breach) → AllKept (map Broken broken) → broken ≡ []
+kept_rules [] kept = refl
+kept_rules (breach ∷ broken) kept = absurd kept
 
--- or where what stands before it is kept
-pub first_later : (named : Named) (before part : List Check) → AllKept before → IsFirst named part → IsFirst named (before ++ part)
-first_later named [] part kept is = is
-first_later named (Broken breach ∷ before) part kept is = absurd kept
-first_later named (Asked spot key text ∷ before) part kept is =
-    inr (kept.0, first_later named before part kept.1 is)
+-- seen from where they stand they are the same checks
+pub kept_from : (at : Path) (checks : List Check) → AllKept (all_in at checks) → AllKept checks
+kept_from at [] kept = tt
+kept_from at (Broken breach ∷ checks) kept = absurd kept
+kept_from at (Asked spot key text ∷ checks) kept = (kept.0, kept_from at checks kept.1)
 
-pub first_of_whole : FirstOfWhole
-first_of_whole named before part others kept is = first_later named before (part ++ others) kept (first_here named part others is)
+behind_none : (first rest all : List Named) → all ≡ first ++ rest → first ≡ [] → all ≡ rest
+behind_none first rest all parts none = parts ∙ ap (λ (l : List Named). l ++ rest) none
 
--- the same of a fault, which may be want of memory
-refused_by : (found : Option Named) (part whole : List Check) → ((named : Named) → IsFirst named part → IsFirst named whole) → MatchOption found ⊤ (λ named. IsFirst named part) → MatchOption found ⊤ (λ named. IsFirst named whole)
-refused_by None part whole more is = is
-refused_by (Some named) part whole more is = more named is
+no_one : {named : Named} (first rest : List Named) → [] ≡ first ++ rest → first ≡ named ∷ [] → ⊥
+no_one first rest parts one = let is = parts ∙ ap (λ (l : List Named). l ++ rest) one in cc
 
-pub refused_here : (fault : PlayFault) (part others : List Check) → IsRefusal fault part → IsRefusal fault (part ++ others)
-refused_here fault part others is =
-    refused_by (named_of fault) part (part ++ others) (λ named. first_here named part others) is
+same_first : (named : Named) (later first rest : List Named) (one : Named) → named ∷ later ≡ first ++ rest → first ≡ one ∷ [] → named ≡ one
+same_first named later first rest one parts is = let same = parts ∙ ap (λ (l : List Named). l ++ rest) is in cc
 
-pub refused_later : (fault : PlayFault) (before part : List Check) → AllKept before → IsRefusal fault part → IsRefusal fault (before ++ part)
-refused_later fault before part kept is =
-    refused_by (named_of fault) part (before ++ part) (λ named. first_later named before part kept) is
+-- nothing is told only of checks that are all kept
+pub kept_where_silent : (checks : List Check) → Tells checks [] → AllKept checks
+kept_where_silent [] told = tt
+kept_where_silent (Broken breach ∷ checks) told =
+    absurd (no_one told.first told.rest told.parts told.is)
+kept_where_silent (Asked spot key text ∷ checks) told =
+    elim told.is [ inl good ↦ (good.0, kept_where_silent checks (subst (Tells checks) (sym (behind_none told.first told.rest [] told.parts good.1)) told.others)) | inr bad ↦ absurd (no_one told.first told.rest told.parts bad.tells) ]
 
--- rules alone: none is broken, or the first is named
-pub none_broken : (broken : List Breach) → broken ≡ [] → AllKept (map Broken broken)
-none_broken [] e = tt
-none_broken (breach ∷ broken) e = cc
+-- what is told first is of the first check that is not kept
+pub first_told : (checks : List Check) (named : Named) (later : List Named) → Tells checks (named ∷ later) → IsFirst named checks
+first_told [] named later told = absurd (cc)
+first_told (Broken breach ∷ checks) named later told =
+    same_first named later told.first told.rest (rule breach) told.parts told.is
+first_told (Asked spot key text ∷ checks) named later told =
+    elim told.is [ inl good ↦ inr (good.0, first_told checks named later (subst (Tells checks) (sym (behind_none told.first told.rest (named ∷ later) told.parts good.1)) told.others)) | inr bad ↦ inl (bad.fault, same_first named later told.first told.rest (condition spot key bad.fault) told.parts bad.tells, bad.breaks) ]
 
-pub first_broken : (broken : List Breach) (breach : Breach) → first_of broken ≡ Some breach → IsFirst (rule breach) (map Broken broken)
-first_broken [] breach e = cc
-first_broken (first ∷ broken) breach e = cc
+-- what is told of some checks comes before what is told of those behind them
+pub tells_both : (before after : List Check) (told more : List Named) → Tells before told → Tells after more → Tells (before ++ after) (told ++ more)
+tells_both [] after told more none later = subst (λ (front : List Named). Tells after (front ++ more)) (sym none) later
+tells_both (check ∷ before) after told more some later = record {
+  first = some.first;
+  rest = some.rest ++ more;
+  parts = ap (λ (l : List Named). l ++ more) some.parts ∙ append_assoc some.first some.rest more;
+  is = some.is;
+  others = tells_both before after some.rest more some.others later;
+}
 
--- seen from the top value they are the same checks
-pub kept_in : (at : Path) (checks : List Check) → AllKept checks → AllKept (all_in at checks)
-kept_in at [] kept = tt
-kept_in at (Broken breach ∷ checks) kept = absurd kept
-kept_in at (Asked spot key text ∷ checks) kept = (kept.0, kept_in at checks kept.1)
+pub tells_one : (check : Check) (told : List Named) → IsToldBy check told → Tells (check ∷ []) told
+tells_one check told is = record { first = told; rest = []; parts = sym (append-nil told); is = is; others = refl }
 
-pub first_in : (at : Path) (named : Named) (checks : List Check) → IsFirst named checks → IsFirst (named_from at named) (all_in at checks)
-first_in at named [] is = absurd is
-first_in at named (Broken breach ∷ checks) is = ap (named_from at) is
-first_in at named (Asked spot key text ∷ checks) is =
-    elim is [ inl fault ↦ inl (fault.0, ap (named_from at) fault.1, fault.2) | inr later ↦ inr (later.0, first_in at named checks later.1) ]
+pub silent_where_kept : (checks : List Check) → AllKept checks → Tells checks []
+silent_where_kept [] kept = refl
+silent_where_kept (Broken breach ∷ checks) kept = absurd kept
+silent_where_kept (Asked spot key text ∷ checks) kept =
+    record { first = []; rest = []; parts = refl; is = inl (kept.0, refl); others = silent_where_kept checks kept.1 }

@@ -6,11 +6,16 @@ pub mod Settings
 pub mod Commands
 pub mod CommandPlaces
 pub mod Conditions
+pub mod Names
 pub mod Steps
 pub mod Plays
 pub mod Worked
 pub mod Checks
 pub mod Faults
-pub mod Laws
+pub mod Told
+pub mod ToldFaults
 pub mod Verdicts
 pub mod KeyLists
+pub mod Places
+pub mod Tests
+pub mod Known

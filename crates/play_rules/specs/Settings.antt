@@ -1,6 +1,6 @@
 -- The rules of a play apart from its steps, each path seen from the play, and what it says: `hosts`, `serial`, `max_fail_percentage`, `on_blocked`.
 use Rattle.std.specs.Prelude.{ℕ, Bool, ◌&&◌, bytes_eq, codes, Option, Some, None, is_some, option_map, option_and_then, unwrap_or, List, [], ◌∷◌, ◌++◌, length, nat_le, nat_lt, if◌then◌else◌}
-use Rattle.std.specs.List.{filter_map, flat_map, list_any}
+use Rattle.std.specs.List.{filter_map, flat_map, list_all, list_any}
 use Rattle.std.specs.Option.{option_or}
 use Rattle.serde_json.specs.Data.{Data, null, boolean, number, string, array, object}
 use Rattle.serde_json.specs.Find.{as_str}
@@ -43,8 +43,10 @@ names_somebody pattern = nat_lt 0 (length (parts_of pattern))
 abbrev pub has_name : Data → Bool
 has_name value = names_somebody (unwrap_or (as_str value) [])
 
+-- that no name is in them is told where all are texts
 abbrev pub bad_pattern : Path → Data → List Breach
-bad_pattern at value = bad_texts at value ++ unless (list_any has_name (listed value)) (BadShape at)
+bad_pattern at value =
+    if list_all is_text (listed value) then unless (list_any has_name (listed value)) (BadShape at) else bad_texts at value
 
 -- 702: `hosts` is missing, is no text and no list of texts, or has no name in it
 abbrev pub bad_hosts : Option Data → List Breach

@@ -1,22 +1,23 @@
--- A step: the rules that it breaks, each path seen from the step, and what it says.
-use Rattle.std.specs.Prelude.{ℕ, Bool, false, not, Option, Some, None, is_some, option_and_then, unwrap_or, position, List, [], ◌∷◌, ◌++◌, map, filter, if◌then◌else◌}
+-- A step: the rules that it breaks, each path seen from the step, and what it says. What only follows from another fault is
+-- not told.
+use Rattle.std.specs.Prelude.{ℕ, Bool, true, false, not, Option, Some, None, is_some, option_and_then, unwrap_or, List, [], ◌∷◌, ◌++◌, map, filter, if◌then◌else◌}
 use Rattle.std.specs.List.{filter_map, flat_map}
 use Rattle.serde_json.specs.Data.{Data}
 use Rattle.serde_json.specs.Find.{get, as_str, as_bool}
-use Rattle.group_tree.specs.Names.{Name, same_name, is_among}
+use Rattle.group_tree.specs.Names.{Name, is_among}
 use Rattle.text_parts.specs.Words.{is_name}
 use Rattle.text_parts.specs.Shapes.{Entry, entries_in, is_object, is_truth, is_text}
-use Rattle.play_rules.specs.Keys.{name_key, register_key, when_key, changed_key, failed_key, ignore_key, notify_key, task_keys, handler_keys}
-use Rattle.play_rules.specs.Breaches.{Breach, BadShape, UnknownKey, NoSuchHandler, TwiceHandler, Check, Broken, Spot, unless, joined, where_given, is_known}
+use Rattle.play_rules.specs.Keys.{name_key, register_key, when_key, changed_key, failed_key, ignore_key, notify_key}
+use Rattle.play_rules.specs.KeyLists.{keys_in}
+use Rattle.play_rules.specs.Breaches.{Breach, BadShape, UnknownKey, NoSuchHandler, TwiceHandler, Check, Broken, Spot, unless, where_given, is_known}
 use Rattle.play_rules.specs.Settings.{texts_in, bad_texts}
 use Rattle.play_rules.specs.Commands.{Word, words_in}
 use Rattle.play_rules.specs.CommandPlaces.{bad_command}
-use Rattle.play_rules.specs.Paths.{under, given_path}
+use Rattle.play_rules.specs.Paths.{under}
 use Rattle.play_rules.specs.Conditions.{Clause, clauses_at, checks_at}
-
--- 702: a step is no object
-abbrev pub bad_step : Data → List Breach
-bad_step step = unless (is_object step) (BadShape [])
+use Rattle.play_rules.specs.Names.{once, place_of}
+use Rattle.play_rules.specs.declared.place.StepList.{StepList}
+use Rattle.play_rules.specs.declared.place.StepList.TheVariants.{Tasks, Handlers}
 
 -- 703: each key that a play or a step may not have, in the order of their bytes
 abbrev pub unknown_entry : List Name → Entry → List Breach
@@ -28,13 +29,17 @@ unknown_key keys value = flat_map (unknown_entry keys) (entries_in value)
 abbrev pub name_in : Data → Option Name
 name_in step = option_and_then as_str (get name_key step)
 
--- 702: a task's name is no text
-abbrev pub bad_task_name : Data → List Breach
-bad_task_name step = where_given (λ value. unless (is_text value) (BadShape (under [] name_key))) (get name_key step)
+-- 702: a name is no text, or a handler has none
+abbrev pub may_be_unnamed : StepList → Bool
+may_be_unnamed Tasks = true
+may_be_unnamed Handlers = false
 
--- 702: a handler's name is no text, or is missing
-abbrev pub bad_handler_name : Data → List Breach
-bad_handler_name step = unless (is_some (name_in step)) (BadShape (given_path [] name_key step))
+abbrev pub bad_name_by : StepList → Option Data → List Breach
+bad_name_by list None = unless (may_be_unnamed list) (BadShape [])
+bad_name_by list (Some name) = unless (is_text name) (BadShape (under [] name_key))
+
+abbrev pub bad_name : StepList → Data → List Breach
+bad_name list step = bad_name_by list (get name_key step)
 
 -- 702: what a result is registered under is no name
 abbrev pub registered : Data → Option Name
@@ -56,27 +61,35 @@ abbrev pub notified_in : Data → List Name
 notified_in step = where_given texts_in (get notify_key step)
 
 -- a step up to its conditions
-abbrev pub bad_head : Spot → List Name → List Breach → Data → List Breach
-bad_head spot keys name step =
-    joined (bad_step step ∷ unknown_key keys step ∷ name ∷ bad_command spot step ∷ bad_register step ∷ [])
+abbrev pub checks_of_head : StepList → Spot → Data → List Check
+checks_of_head list spot step =
+    map Broken (unknown_key (keys_in list) step) ++ (map Broken (bad_name list step) ++ (map Broken (bad_command spot step) ++ map Broken (bad_register step)))
 
 abbrev pub condition_checks : Spot → Data → List Check
 condition_checks spot step = checks_at spot when_key step ++ (checks_at spot changed_key step ++ checks_at spot failed_key step)
 
-abbrev pub checks_of_task : Spot → Data → List Check
-checks_of_task spot step =
-    map Broken (bad_head spot task_keys (bad_task_name step) step) ++ (condition_checks spot step ++ map Broken (bad_ignore step ++ bad_notify step))
+abbrev pub checks_of_keys : StepList → Spot → Data → List Check
+checks_of_keys list spot step =
+    checks_of_head list spot step ++ (condition_checks spot step ++ map Broken (bad_ignore step))
 
-abbrev pub checks_of_handler : Spot → Data → List Check
-checks_of_handler spot step =
-    map Broken (bad_head spot handler_keys (bad_handler_name step) step) ++ (condition_checks spot step ++ map Broken (bad_ignore step))
+-- 702: a step is no object; nothing else is told of it
+abbrev pub checks_of_step : StepList → Spot → Data → List Check
+checks_of_step list spot step = if is_object step then checks_of_keys list spot step else Broken (BadShape []) ∷ []
 
--- 704: a task notifies a handler that isn't there
+-- 704: each handler that a task notifies and that isn't there, once
 abbrev pub is_missing : List Name → Name → Bool
 is_missing handlers name = not (is_among name handlers)
 
-abbrev pub unknown_handlers : List Name → Data → List Breach
-unknown_handlers handlers step = map NoSuchHandler (filter (is_missing handlers) (notified_in step))
+abbrev pub missing_names : List Name → List Name → List Breach
+missing_names handlers names = map NoSuchHandler (once [] (filter (is_missing handlers) names))
+
+-- none is missing where the play's handlers can't be read
+abbrev pub missing_handlers : Bool → List Name → Data → List Breach
+missing_handlers readable handlers task = if readable then missing_names handlers (notified_in task) else []
+
+abbrev pub checks_of_task : Bool → List Name → Spot → Data → List Check
+checks_of_task readable handlers spot task =
+    checks_of_step Tasks spot task ++ (map Broken (bad_notify task) ++ map Broken (missing_handlers readable handlers task))
 
 -- 705: a handler has the name of one before it
 abbrev pub twice : List Name → Name → List Breach
@@ -84,6 +97,9 @@ twice met name = unless (is_missing met name) (TwiceHandler name)
 
 abbrev pub twice_named : List Name → Data → List Breach
 twice_named met step = where_given (twice met) (name_in step)
+
+abbrev pub checks_of_handler : List Name → Spot → Data → List Check
+checks_of_handler met spot handler = checks_of_step Handlers spot handler ++ map Broken (twice_named met handler)
 
 -- what a step says; handlers that it notifies by their places among these
 pub record WrittenStep : Type 0 where
@@ -95,9 +111,6 @@ pub record WrittenStep : Type 0 where
   pub failed_when : List Clause
   pub ignore_errors : Bool
   pub notify : List ℕ
-
-abbrev pub place_of : List Name → Name → Option ℕ
-place_of handlers name = position (same_name name) handlers
 
 abbrev pub step_of : List Name → Data → WrittenStep
 step_of handlers step =

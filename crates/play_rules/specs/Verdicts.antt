@@ -1,8 +1,8 @@
 -- Which rule a flaw names.
-use Rattle.std.specs.Prelude.{◌≡◌, ℕ, Some, Result, List, [], MatchResult, map}
+use Rattle.std.specs.Prelude.{ℕ, List, [], map}
 use Rattle.std.specs.Borrow.{Bor}
 use Rattle.play_rules.specs.Breaches as rules
-use Rattle.play_rules.specs.Breaches.{Breach, Spot, first_of}
+use Rattle.play_rules.specs.Breaches.{Breach, Spot}
 use Rattle.play_rules.specs.Keys.{max_fail_key}
 use Rattle.play_rules.specs.Paths.{Path, below, under}
 use Rattle.play_rules.specs.declared.flaw.Flaw.{Flaw}
@@ -10,21 +10,20 @@ use Rattle.play_rules.specs.declared.flaw.Flaw.TheVariants as flaw
 
 -- of the flaw of a play or step at this place, which has this path
 abbrev pub breach_from : Path → Spot → Flaw → Breach
+breach_from path spot flaw.NotJson = rules.NotJson
 breach_from path spot (flaw.BadShape at) = rules.BadShape (below path at)
 breach_from path spot (flaw.UnknownKey key) = rules.UnknownKey (under path key.now)
+breach_from path spot (flaw.NoSuchHandler name) = rules.NoSuchHandler name.now
+breach_from path spot (flaw.TwiceHandler name) = rules.TwiceHandler name.now
 breach_from path spot (flaw.BadSerial at) = rules.BadSerial (below path at)
 breach_from path spot flaw.BadPercent = rules.BadPercent (under path max_fail_key)
+breach_from path spot flaw.ManyPlays = rules.ManyPlays
 breach_from path spot flaw.TooManySteps = rules.TooManySteps
 breach_from path spot flaw.BadBraces = rules.BadBraces spot
 
 -- seen from there
 abbrev pub breach_at : Spot → Flaw → Breach
 breach_at spot found = breach_from [] spot found
-
--- no rule is broken, or the flaw names the first that is
-abbrev pub IsVerdict : {T : Type 0} → Result T Flaw → List Breach → Type 0
-IsVerdict result broken =
-    MatchResult result (λ _. broken ≡ []) (λ found. (spot : Spot) → first_of broken ≡ Some (breach_at spot found))
 
 -- texts that are lent
 abbrev pub lent_texts : List (Bor (List ℕ)) → List (List ℕ)

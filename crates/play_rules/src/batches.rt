@@ -1,72 +1,60 @@
 //! The key `serial`.
-ghost use Rattle.std.specs.Prelude.{◌≡◌, ◌≤◌, ◌++◌, [], IfOk, map, length};
+#![tactic(auto, using(crate::proofs::AddLaws::findings_in_turn))]
+
+ghost use Rattle.std.specs.Prelude.{◌≡◌, ◌++◌, [], IfOk, OnOk, map};
 ghost use Rattle.std.specs.List.{filter_map};
 ghost use Rattle.serde_json.specs.Find.{get};
 ghost use Rattle.serde_json.specs.View.{view};
-ghost use Rattle.play_rules.specs.Breaches.{BadSerial};
-ghost use Rattle.play_rules.specs.Entries.{bad_entries, bad_from};
+ghost use Rattle.play_rules.specs.Breaches.{Broken};
 ghost use Rattle.play_rules.specs.Keys.{serial_key};
 ghost use Rattle.play_rules.specs.Paths.{under};
+ghost use Rattle.play_rules.specs.Places.{path_at};
 ghost use Rattle.play_rules.specs.Settings as spec;
-ghost use Rattle.play_rules.specs.Verdicts.{IsVerdict};
+ghost use Rattle.play_rules.specs.Told.{Adds};
 
+use crate::collector::FaultCollector;
+use crate::entries::{Test, check_entries};
 use crate::flaw::{Below, Flaw};
-use crate::sizes::{is_size, size_of};
+use crate::place::Place;
+use crate::sizes::size_of;
 use play_model::{SIZES_BOUND, Size};
 use serde_json::Value;
 use std::alloc::{AllocError, Global};
-use text_parts::{elements_of, listed};
+use text_parts::listed;
 
-/// Whether `serial`, where a play has it, is a size or a list of 1 to 64 sizes.
-pub fn check_serial<'a>(play: &'a Value) -> Result<(), Flaw<'a>>
-    ensures { IsVerdict result (spec.bad_serial (get serial_key (view play.now))) }
+/// The sizes of a play's batches; none where it has no `serial`.
+pub fn read_sizes(
+    faults: &mut FaultCollector,
+    place: Place,
+    play: &Value,
+) -> Result<Vec<Size>, AllocError>
+    ensures found { OnOk result (Adds (path_at place) faults.old faults.new (map Broken (spec.bad_serial (get serial_key (view play.now))))) }
+    ensures says { IfOk result (λ sizes. sizes.items ≡ spec.sizes_in (get serial_key (view play.now))) }
 {
-    match play.get("serial") {
-        Some(serial) => check_given(serial),
-        None => Ok(()),
-    }
+    let Some(serial) = play.get("serial") else {
+        return Ok(Vec::new(faults.alloc()));
+    };
+    check_sizes(faults, place, serial)?;
+    sizes_given(faults.alloc(), serial)
 }
 
-fn check_given<'a>(serial: &'a Value) -> Result<(), Flaw<'a>>
-    ensures { IsVerdict result (spec.bad_given (under [] serial_key) (view serial.now)) }
+/// Checks that the value is a size or a list of 1 to 64 sizes.
+fn check_sizes(faults: &mut FaultCollector, place: Place, serial: &Value) -> Result<(), AllocError>
+    ensures { OnOk result (Adds (path_at place) faults.old faults.new (map Broken (spec.bad_given (under [] serial_key) (view serial.now)))) }
 {
-    let entries = listed(serial);
-    if entries.is_empty() || entries.len() > SIZES_BOUND {
-        return Err(Flaw::BadSerial(Below::Key("serial")));
-    }
-    check_sizes(serial)
-}
-
-/// Of several values that are no size the first is told.
-fn check_sizes<'a>(serial: &'a Value) -> Result<(), Flaw<'a>>
-    ensures { IsVerdict result (bad_entries BadSerial spec.is_size (under [] serial_key) (view serial.now)) }
-{
-    match elements_of(serial) {
-        Some(list) => check_each(list),
-        None if is_size(serial) => Ok(()),
-        None => Err(Flaw::BadSerial(Below::Key("serial"))),
-    }
-}
-
-fn check_each<'a>(list: &'a [Value]) -> Result<(), Flaw<'a>>
-    ensures { IsVerdict result (bad_from BadSerial spec.is_size (under [] serial_key) 0 (map view list.now)) }
-{
-    for index in 0..list.len() {
-        if !is_size(&list[index]) {
-            return Err(Flaw::BadSerial(Below::Element("serial", index)));
-        }
-    }
+    faults.check(
+        are_few(listed(serial)),
+        place,
+        Flaw::BadSerial(Below::Key("serial")),
+    )?;
+    check_entries(faults, place, Test::Size, "serial", serial)?;
     Ok(())
 }
 
-/// The sizes that `serial` says; none where a play hasn't it. It fails for want of memory alone.
-pub fn sizes_in(alloc: Global, play: &Value) -> Result<Vec<Size>, AllocError>
-    ensures { IfOk result (λ sizes. sizes.items ≡ spec.sizes_in (get serial_key (view play.now))) }
+fn are_few(entries: &[Value]) -> bool
+    ensures { result ≡ spec.are_few (map view entries.now) }
 {
-    match play.get("serial") {
-        Some(serial) => sizes_given(alloc, serial),
-        None => Ok(Vec::new(alloc)),
-    }
+    !entries.is_empty() && entries.len() <= SIZES_BOUND
 }
 
 fn sizes_given(alloc: Global, serial: &Value) -> Result<Vec<Size>, AllocError>

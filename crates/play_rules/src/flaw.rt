@@ -1,4 +1,4 @@
-//! What is wrong with a part of a play.
+//! What is wrong with a part of a playbook.
 
 /// Where something stands, seen from a play or a step: it is the play or step itself, the value under a key, an element of
 /// the list there, or the same below a parameter of a step's command.
@@ -11,13 +11,17 @@ pub enum Below<'a> {
     ParameterElement(&'a str, &'a str, usize),
 }
 
-/// The first rule that a part of a play breaks, and where.
+/// A rule that a playbook, a play or a step breaks, and where below it.
 #[derive(Clone, Copy, Debug, PartialEq, Eq)]
 pub enum Flaw<'a> {
+    NotJson,
     BadShape(Below<'a>),
     UnknownKey(&'a str),
+    NoSuchHandler(&'a str),
+    TwiceHandler(&'a str),
     BadSerial(Below<'a>),
     BadPercent,
+    ManyPlays,
     TooManySteps,
     BadBraces,
 }

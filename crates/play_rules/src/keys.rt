@@ -1,16 +1,21 @@
 //! The keys that a play, a task or a handler may have.
-ghost use Rattle.std.specs.Prelude.{◌≡◌};
-ghost use Rattle.std.specs.List.{flat_map};
-ghost use Rattle.serde_json.specs.View.{view, members_view};
-ghost use Rattle.group_tree.specs.Names.{is_among};
-ghost use Rattle.text_parts.specs.Shapes.{entries};
-ghost use Rattle.play_rules.specs.Keys as spec;
-ghost use Rattle.play_rules.specs.Steps.{unknown_key};
-ghost use Rattle.play_rules.specs.Verdicts.{IsVerdict};
-ghost use Rattle.play_rules.specs.KeyLists.{keys_of};
+#![tactic(auto, using(crate::proofs::AddLaws::findings_in_turn))]
 
+ghost use Rattle.std.specs.Prelude.{◌≡◌, OnOk, map};
+ghost use Rattle.serde_json.specs.View.{view};
+ghost use Rattle.group_tree.specs.Names.{is_among};
+ghost use Rattle.play_rules.specs.Breaches.{Broken};
+ghost use Rattle.play_rules.specs.KeyLists.{keys_of};
+ghost use Rattle.play_rules.specs.Keys as spec;
+ghost use Rattle.play_rules.specs.Places.{path_at};
+ghost use Rattle.play_rules.specs.Steps.{unknown_key};
+ghost use Rattle.play_rules.specs.Told.{Adds};
+
+use crate::collector::FaultCollector;
 use crate::flaw::Flaw;
+use crate::place::Place;
 use serde_json::{Map, Value};
+use std::alloc::AllocError;
 use text_parts::entries_of;
 
 /// Of what the keys are.
@@ -66,17 +71,21 @@ fn is_handler_key(key: &str) -> bool
         || key == "ignore_errors"
 }
 
-/// Whether a play or a step has none but these keys; of others the first in the order of their bytes is told.
-pub fn check_keys<'a>(keys: Keys, value: &'a Value) -> Result<(), Flaw<'a>>
-    ensures { IsVerdict result (unknown_key (keys_of keys) (view value.now)) }
+/// Checks that a play or a step has none but these keys.
+pub fn check_keys(
+    faults: &mut FaultCollector,
+    place: Place,
+    keys: Keys,
+    value: &Value,
+) -> Result<(), AllocError>
+    ensures { OnOk result (Adds (path_at place) faults.old faults.new (map Broken (unknown_key (keys_of keys) (view value.now)))) }
 {
     let Some(object) = entries_of(value) else {
         return Ok(());
     };
     for (key, _value) in object {
-        if !keys.have(key.as_str()) {
-            return Err(Flaw::UnknownKey(key.as_str()));
-        }
+        let key = key.as_str();
+        faults.check(keys.have(key), place, Flaw::UnknownKey(key))?;
     }
     Ok(())
 }

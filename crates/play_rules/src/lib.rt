@@ -1,31 +1,41 @@
-//! What a playbook may say: each key with its rule, what it says, and the fault that it makes.
+//! What a playbook may say: each key with its rule, what it says, and the faults that it makes.
 #![tactic(auto)]
 
 mod batches;
+mod collector;
 mod command_place;
+mod entries;
 mod fault;
+mod fault_at;
 mod flaw;
 mod key;
 mod keys;
-mod laws;
-mod names;
+mod name_list;
+mod path;
 mod pattern;
+mod place;
 mod register;
 mod settings;
 mod sizes;
+mod step_name;
 mod step_settings;
 mod texts;
+mod told;
 mod worked;
 
-pub use batches::{check_serial, sizes_in};
+pub use batches::read_sizes;
+pub use collector::FaultCollector;
 pub use command_place::{count_entries, is_word, place_of_bad_command};
+pub use entries::{Test, check_entries};
 pub use fault::PlayFault;
 pub use flaw::{Below, Flaw};
 pub use key::ConditionKey;
 pub use keys::{Keys, check_keys};
-pub use laws::{a_fault_of_a_part_is_one_of_the_whole, parts_that_are_kept_are_kept_together};
-pub use names::{name_in, name_of_handler, name_of_task};
-pub use pattern::{check_hosts, pattern_in};
-pub use register::register_of;
-pub use settings::{check_mode, check_percent, mode_in, percent_in};
-pub use step_settings::{check_step, ignores_errors, notified_by};
+pub use name_list::NameList;
+pub use pattern::read_pattern;
+pub use place::{Place, PlayPlace, StepList, StepPlace};
+pub use register::read_register;
+pub use settings::{read_mode, read_percent};
+pub use step_name::{name_in, read_name};
+pub use step_settings::{read_ignore, read_notify};
+pub use told::Told;

@@ -1,37 +1,57 @@
 //! The key `hosts`.
-ghost use Rattle.std.specs.Prelude.{◌≡◌, ◌++◌, [], IfOk, map, string_bytes};
+#![tactic(auto, using(crate::proofs::AddLaws::findings_in_turn))]
+
+ghost use Rattle.std.specs.Prelude.{◌≡◌, ◌++◌, [], IfOk, OnOk, map, string_bytes};
 ghost use Rattle.std.specs.List.{flat_map, list_any};
 ghost use Rattle.serde_json.specs.Find.{get};
 ghost use Rattle.serde_json.specs.View.{view};
+ghost use Rattle.play_rules.specs.Breaches.{Broken};
 ghost use Rattle.play_rules.specs.Keys.{hosts_key};
 ghost use Rattle.play_rules.specs.Paths.{under};
+ghost use Rattle.play_rules.specs.Places.{path_at};
 ghost use Rattle.play_rules.specs.Settings as spec;
-ghost use Rattle.play_rules.specs.Verdicts.{IsVerdict, lent_texts};
+ghost use Rattle.play_rules.specs.Told.{Adds};
+ghost use Rattle.play_rules.specs.Verdicts.{lent_texts};
 
+use crate::collector::FaultCollector;
+use crate::entries::{Test, check_entries};
 use crate::flaw::{Below, Flaw};
-use crate::texts::{check_texts, texts_in};
+use crate::place::Place;
+use crate::texts::{are_texts, texts_in};
 use serde_json::Value;
 use std::alloc::{AllocError, Global};
 use text_parts::{first_part, listed};
 
-/// Whether a play has `hosts`, a text or a list of texts with at least one name in it.
-pub fn check_hosts<'a>(play: &'a Value) -> Result<(), Flaw<'a>>
-    ensures { IsVerdict result (spec.bad_hosts (get hosts_key (view play.now))) }
+/// The pattern of a play's hosts; a list is the hosts of all its patterns.
+pub fn read_pattern(
+    faults: &mut FaultCollector,
+    place: Place,
+    play: &Value,
+) -> Result<String, AllocError>
+    ensures found { OnOk result (Adds (path_at place) faults.old faults.new (map Broken (spec.bad_hosts (get hosts_key (view play.now))))) }
+    ensures says { IfOk result (λ pattern. string_bytes pattern ≡ spec.pattern_in (get hosts_key (view play.now))) }
 {
-    match play.get("hosts") {
-        Some(hosts) => check_pattern(hosts),
-        None => Err(Flaw::BadShape(Below::Itself)),
-    }
+    let Some(hosts) = play.get("hosts") else {
+        faults.add(place, Flaw::BadShape(Below::Itself))?;
+        return Ok(String::new(faults.alloc()));
+    };
+    check_pattern(faults, place, hosts)?;
+    pattern_of(faults.alloc(), hosts)
 }
 
-fn check_pattern<'a>(hosts: &'a Value) -> Result<(), Flaw<'a>>
-    ensures { IsVerdict result (spec.bad_pattern (under [] hosts_key) (view hosts.now)) }
+/// Checks that the value is a text or a list of texts with at least one name in it.
+fn check_pattern(faults: &mut FaultCollector, place: Place, hosts: &Value) -> Result<(), AllocError>
+    ensures { OnOk result (Adds (path_at place) faults.old faults.new (map Broken (spec.bad_pattern (under [] hosts_key) (view hosts.now)))) }
 {
-    check_texts("hosts", hosts)?;
-    if have_name(listed(hosts)) {
-        Ok(())
+    let patterns = listed(hosts);
+    if are_texts(patterns) {
+        faults.check(
+            have_name(patterns),
+            place,
+            Flaw::BadShape(Below::Key("hosts")),
+        )
     } else {
-        Err(Flaw::BadShape(Below::Key("hosts")))
+        check_entries(faults, place, Test::Text, "hosts", hosts)
     }
 }
 
@@ -56,16 +76,6 @@ fn names_somebody(pattern: &str) -> bool
     ensures { result ≡ spec.names_somebody pattern.now }
 {
     first_part(pattern).is_some()
-}
-
-/// The pattern that `hosts` says; a list is the hosts of all its patterns. It fails for want of memory alone.
-pub fn pattern_in(alloc: Global, play: &Value) -> Result<String, AllocError>
-    ensures { IfOk result (λ pattern. string_bytes pattern ≡ spec.pattern_in (get hosts_key (view play.now))) }
-{
-    match play.get("hosts") {
-        Some(hosts) => pattern_of(alloc, hosts),
-        None => Ok(String::new(alloc)),
-    }
 }
 
 fn pattern_of(alloc: Global, hosts: &Value) -> Result<String, AllocError>

@@ -1,43 +1,68 @@
 //! The keys `max_fail_percentage` and `on_blocked`.
-ghost use Rattle.std.specs.Prelude.{◌≡◌, ◌≤◌, Some, option_and_then};
+#![tactic(auto, using(crate::proofs::AddLaws::findings_in_turn))]
+
+ghost use Rattle.std.specs.Prelude.{◌≡◌, ◌≤◌, IfOk, OnOk, map};
 ghost use Rattle.serde_json.specs.Find.{get};
 ghost use Rattle.serde_json.specs.View.{view};
+ghost use Rattle.text_parts.specs.Numerals as numerals;
+ghost use Rattle.play_rules.specs.Breaches.{Broken};
 ghost use Rattle.play_rules.specs.Keys.{max_fail_key, on_blocked_key};
+ghost use Rattle.play_rules.specs.Places.{path_at};
 ghost use Rattle.play_rules.specs.Settings as spec;
-ghost use Rattle.play_rules.specs.Verdicts.{IsVerdict};
+ghost use Rattle.play_rules.specs.Told.{Adds};
 
+use crate::collector::FaultCollector;
 use crate::flaw::{Below, Flaw};
+use crate::place::Place;
 use crate::sizes::share_of;
 use group_tree::Percentage;
 use play_model::OnBlocked;
 use serde_json::Value;
+use std::alloc::AllocError;
 use text_parts::whole_number;
 
-/// Whether `max_fail_percentage`, where a play has it, is a whole number from 0 to 100.
-pub fn check_percent<'a>(play: &'a Value) -> Result<(), Flaw<'a>>
-    ensures { IsVerdict result (spec.bad_percent (get max_fail_key (view play.now))) }
+/// The percentage of a batch past which failed hosts end a play.
+pub fn read_percent(
+    faults: &mut FaultCollector,
+    place: Place,
+    play: &Value,
+) -> Result<Option<Percentage>, AllocError>
+    ensures found { OnOk result (Adds (path_at place) faults.old faults.new (map Broken (spec.bad_percent (get max_fail_key (view play.now))))) }
+    ensures says { IfOk result (λ percent. percent ≡ spec.percent_in (get max_fail_key (view play.now))) }
 {
-    match play.get("max_fail_percentage") {
-        Some(value) if whole_number(value, 100).is_none() => Err(Flaw::BadPercent),
-        _ => Ok(()),
-    }
+    let Some(value) = play.get("max_fail_percentage") else {
+        return Ok(None);
+    };
+    let percent = percent_of(value);
+    faults.check(percent.is_some(), place, Flaw::BadPercent)?;
+    Ok(percent)
 }
 
-/// The percentage that `max_fail_percentage` says.
-pub fn percent_in(play: &Value) -> Option<Percentage>
-    ensures { result ≡ spec.percent_in (get max_fail_key (view play.now)) }
+fn percent_of(value: &Value) -> Option<Percentage>
+    ensures { result ≡ numerals.whole_number 100 (view value.now) }
 {
-    share_of(whole_number(play.get("max_fail_percentage")?, 100)?)
+    share_of(whole_number(value, 100)?)
 }
 
-/// Whether `on_blocked`, where a play has it, is `stop` or `hold`.
-pub fn check_mode<'a>(play: &'a Value) -> Result<(), Flaw<'a>>
-    ensures { IsVerdict result (spec.bad_mode (get on_blocked_key (view play.now))) }
+/// What a play does where a group has no room; one that doesn't say it stops.
+pub fn read_mode(
+    faults: &mut FaultCollector,
+    place: Place,
+    play: &Value,
+) -> Result<OnBlocked, AllocError>
+    ensures found { OnOk result (Adds (path_at place) faults.old faults.new (map Broken (spec.bad_mode (get on_blocked_key (view play.now))))) }
+    ensures says { IfOk result (λ mode. mode ≡ spec.mode_in (get on_blocked_key (view play.now))) }
 {
-    match play.get("on_blocked") {
-        Some(value) if mode_of(value).is_none() => { Err(Flaw::BadShape(Below::Key("on_blocked"))) }
-        _ => Ok(()),
-    }
+    let Some(value) = play.get("on_blocked") else {
+        return Ok(OnBlocked::Stop);
+    };
+    let mode = mode_of(value);
+    faults.check(
+        mode.is_some(),
+        place,
+        Flaw::BadShape(Below::Key("on_blocked")),
+    )?;
+    Ok(mode.unwrap_or(OnBlocked::Stop))
 }
 
 fn mode_of(value: &Value) -> Option<OnBlocked>
@@ -53,15 +78,5 @@ fn mode_named(word: &str) -> Option<OnBlocked>
         "stop" => Some(OnBlocked::Stop),
         "hold" => Some(OnBlocked::Hold),
         _ => None,
-    }
-}
-
-/// What `on_blocked` says; a play without it stops.
-pub fn mode_in(play: &Value) -> OnBlocked
-    ensures { result ≡ spec.mode_in (get on_blocked_key (view play.now)) }
-{
-    match play.get("on_blocked") {
-        Some(value) => mode_of(value).unwrap_or(OnBlocked::Stop),
-        None => OnBlocked::Stop,
     }
 }

@@ -10,7 +10,7 @@ use serde_json::Value;
 use text_parts::{number_in_digits, percentage_in, whole_number};
 
 /// The size that a value says: a whole number from 0 to 65,535, a text of 1 to 5 digits, or a percentage.
-pub fn size_of(value: &Value) -> Option<Size>
+pub(crate) fn size_of(value: &Value) -> Option<Size>
     ensures { result ≡ spec.size_of (view value.now) }
 {
     match value {
@@ -21,7 +21,7 @@ pub fn size_of(value: &Value) -> Option<Size>
 }
 
 /// Whether the value is a size. It takes no memory.
-pub fn is_size(value: &Value) -> bool
+pub(crate) fn is_size(value: &Value) -> bool
     ensures { result ≡ spec.is_size (view value.now) }
 {
     size_of(value).is_some()

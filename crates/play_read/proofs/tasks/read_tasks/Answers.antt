@@ -1,42 +1,44 @@
-use Rattle.std.proofs.Common.{◌+◌, List, map, take, drop, sym, subst}
-use Rattle.std.specs.Prelude.{All}
-use Rattle.std.proofs.lemmas.List.Elements.{All-push}
+use Rattle.std.proofs.Common.{◌+◌, [], List, map, take, drop, ap}
+use Rattle.std.proofs.lemmas.List.{drop_all}
 use Rattle.serde_json.specs.View.{view}
-use Rattle.play_model.specs.Plays.{HasPlainWords}
-use Rattle.play_model.specs.declared.step.Step.{Step}
-use Rattle.play_rules.specs.Plays.{checks_of_tasks}
-use Rattle.play_rules.specs.Steps.{step_of}
+use Rattle.serde_json.specs.declared.value.Value.{Value}
+use Rattle.play_rules.specs.Breaches.{all_in}
+use Rattle.play_rules.specs.Known.{known}
+use Rattle.play_rules.specs.Paths.{task_path}
+use Rattle.play_rules.specs.Places.{play_path}
+use Rattle.play_rules.specs.Plays.{checks_of_tasks, spot_at}
+use Rattle.play_rules.specs.Steps.{checks_of_task, step_of}
+use Rattle.play_rules.proofs.AddLaws.{adds_inside, kept_one, leads_end, leads_on}
+use Rattle.play_rules.proofs.CheckLaws.{kept_from}
 use Rattle.play_read.specs.Readings.{IsStep}
-use Rattle.play_read.specs.Known.{known}
-use Rattle.play_read.specs.Places.{play_path}
 use Rattle.play_read.proofs.Lists.{left_at, taken_at, all_zip_more}
-use Rattle.play_read.proofs.StepLaws.{tasks_on, tasks_refused}
 use Rattle.play_read.proofs.tasks.read_tasks.Goals as goal
-
-pub returns-in-Err-clause-err : goal.returns-in-Err-clause-err
-returns-in-Err-clause-err c =
-    let l = c.loop-index in
-    let tasks = c.args.tasks.now in
-    let task = c.index-tasks-index.result in
-    let names = known c.args.handlers.now in
-    let left = left_at view tasks l.index task c.loop-index-test.true c.index-tasks-index.is in
-    tasks_refused (play_path c.args.play) c.args.play.told l.index names (map view (drop l.index tasks)) (view task) (map view (drop (l.index + 1) tasks)) left
-    (checks_of_tasks (play_path c.args.play) c.args.play.told 0 names (map view tasks)) l.invariant.leads c.in-Err.fault c.in-Err.ensures.err
 
 pub loop-index-preserved : goal.loop-index-preserved
 loop-index-preserved c =
     let l = c.loop-index in
+    let at = play_path c.args.play in
+    let told = c.args.play.told in
     let tasks = c.args.tasks.now in
     let task = c.index-tasks-index.result in
-    let names = known c.args.handlers.now in
+    let readable = c.args.handlers.now.readable in
+    let names = known c.args.handlers.now.names in
     let left = left_at view tasks l.index task c.loop-index-test.true c.index-tasks-index.is in
     let taken = taken_at view tasks l.index task c.loop-index-test.true c.index-tasks-index.is in
+    let path = task_path at l.index in
+    let own = checks_of_task readable names (spot_at told (l.index + 1)) (view task) in
+    let rest = checks_of_tasks at told (l.index + 1) readable names (map view (drop (l.index + 1) tasks)) in
+    let split = ap (checks_of_tasks at told l.index readable names) left in
     let read = c.in-Ok.ensures in
-    let pushed = c.in_ok-push-in-Ok.ensures.items in
     record {
-      leads =
-          tasks_on (play_path c.args.play) c.args.play.told l.index names (map view (drop l.index tasks)) (view task) (map view (drop (l.index + 1) tasks)) left
-          (checks_of_tasks (play_path c.args.play) c.args.play.told 0 names (map view tasks)) l.invariant.leads read.kept read.found;
-      says = all_zip_more IsStep (step_of names) (map view (take l.index tasks)) _ l.steps.items _ (view task) c.read_one.new.into taken pushed l.invariant.says read.says;
-      plain = subst (λ (steps : List Step). All HasPlainWords steps) (sym pushed) (All-push HasPlainWords l.steps.items c.read_one.new.into l.invariant.plain read.plain);
+      found = leads_on [] _ _ _ _ l.invariant.found c.read_one.new.faults (all_in path own) rest split (adds_inside path _ _ own read.found);
+      says = λ kept.
+          all_zip_more IsStep (step_of names) (map view (take l.index tasks)) _ l.steps.items _ (view task) c.read_one.new.into taken c.in_ok-push-in-Ok.ensures.items (l.invariant.says kept)
+          (read.says (kept_from path own (kept_one [] _ _ _ _ l.invariant.found (all_in path own) rest split kept)));
     }
+
+pub returns-clause-found : goal.returns-clause-found
+returns-clause-found c =
+    let l = c.loop-index in
+    leads_end [] _ _ _ _ l.invariant.found
+    (ap (λ (list : List Value). checks_of_tasks (play_path c.args.play) c.args.play.told l.index c.args.handlers.now.readable (known c.args.handlers.now.names) (map view list)) (drop_all l.index c.args.tasks.now c.loop-index-test.false))

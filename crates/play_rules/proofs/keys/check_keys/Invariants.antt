@@ -1,11 +1,15 @@
-use Rattle.std.proofs.Common.{◌≡◌}
+use Rattle.std.proofs.Common.{map}
 use Rattle.std.specs.List.{flat_map}
 use Rattle.serde_json.specs.View.{members_view}
 use Rattle.text_parts.specs.Shapes.{entries}
+use Rattle.play_rules.specs.Breaches.{Broken}
 use Rattle.play_rules.specs.KeyLists.{keys_of}
+use Rattle.play_rules.specs.Places.{path_at}
 use Rattle.play_rules.specs.Steps.{unknown_entry}
+use Rattle.play_rules.proofs.AddLaws.{Leads}
 use Rattle.play_rules.proofs.keys.check_keys.Given as goal
 
 abbrev pub invariant-loop-key : goal.invariant-loop-key
 invariant-loop-key l =
-    flat_map (unknown_entry (keys_of l.keys)) (entries (members_view l.initial.key-iterator)) ≡ flat_map (unknown_entry (keys_of l.keys)) (entries (members_view l.key-iterator))
+    Leads (path_at l.place) l.initial.faults l.faults (map Broken (flat_map (unknown_entry (keys_of l.keys)) (entries (members_view l.key-iterator))))
+    (map Broken (flat_map (unknown_entry (keys_of l.keys)) (entries (members_view l.initial.key-iterator))))

@@ -1,0 +1,36 @@
+-- Handlers that are named and aren't there.
+use Rattle.std.proofs.Common.{◌≡◌, ℕ, ◌+◌, ◌<◌, List, [], ◌∷◌, ◌++◌, map, drop, get_or, length, ap, ◌∙◌}
+use Rattle.std.specs.Prelude.{filter}
+use Rattle.std.specs.List.{filter_map}
+use Rattle.std.proofs.lemmas.List.{map-append}
+use Rattle.std.proofs.lemmas.List.Elements.{filter-append, filter_map-append}
+use Rattle.serde_json.specs.Data.{Data}
+use Rattle.serde_json.specs.Find.{as_str}
+use Rattle.serde_json.specs.View.{view}
+use Rattle.serde_json.specs.declared.value.Value.{Value}
+use Rattle.group_tree.specs.Names.{Name}
+use Rattle.play_rules.specs.Breaches.{Broken, Check, NoSuchHandler}
+use Rattle.play_rules.specs.Known.{texts}
+use Rattle.play_rules.specs.Names.{once}
+use Rattle.play_rules.specs.Steps.{is_missing}
+use Rattle.play_rules.proofs.Lists.{left_at}
+use Rattle.play_rules.proofs.NameLaws.{once-append}
+
+abbrev pub missing_behind : List Name → List Name → List Name → List Check
+missing_behind handlers before names = map Broken (map NoSuchHandler (once before (filter (is_missing handlers) names)))
+
+-- one more value, and those behind it
+pub missing_on : (handlers before : List Name) (names : List Value) (index : ℕ) (item : Value) → index < length names → item ≡ get_or names index item
+    → missing_behind handlers before (texts (drop index names)) ≡ missing_behind handlers before (filter_map as_str (view item ∷ []))
+    ++ missing_behind handlers (before ++ once before (filter (is_missing handlers) (filter_map as_str (view item ∷ [])))) (texts (drop (index + 1) names))
+missing_on handlers before names index item within is =
+    let own = filter_map as_str (view item ∷ []) in
+    let later = texts (drop (index + 1) names) in
+    let front = filter (is_missing handlers) own in
+    let back = filter (is_missing handlers) later in
+    ap (λ (values : List Data). missing_behind handlers before (filter_map as_str values)) (left_at view names index item within is)
+    ∙ ap (missing_behind handlers before) (filter_map-append as_str (view item ∷ []) (map view (drop (index + 1) names)))
+    ∙ ap (λ (l : List Name). map Broken (map NoSuchHandler (once before l))) (filter-append (is_missing handlers) own later)
+    ∙ ap (λ (l : List Name). map Broken (map NoSuchHandler l)) (once-append before front back)
+    ∙ ap (map Broken) (map-append NoSuchHandler (once before front) (once (before ++ once before front) back))
+    ∙ map-append Broken (map NoSuchHandler (once before front)) (map NoSuchHandler (once (before ++ once before front) back))
