@@ -6,5 +6,6 @@ pub mod Lists
 pub mod StepLaws
 pub mod PlayLaws
 pub mod Missing
+pub mod Listed
 pub mod Reports
 pub mod WholePlay

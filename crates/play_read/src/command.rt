@@ -31,13 +31,17 @@ pub(crate) fn read_command(
     ensures found { OnOk result (Adds (path_at place) faults.old faults.new (map Broken (bad_command (spot_of place) (view step.now)))) }
     ensures says { IfOk result (λ words. words ≡ unwrap_or (spec.words_in (view step.now)) []) }
 {
-    let alloc = faults.alloc();
-    let Some(words) = words_in(alloc, step)? else {
-        faults.add(place, Flaw::BadShape(place_of_bad_command(step)))?;
-        return Ok(Words::new(alloc));
-    };
-    faults.check(!have_bad_braces(&words), place, Flaw::BadBraces)?;
-    Ok(words)
+    let found = words_in(faults.alloc(), step)?;
+    match found {
+        Some(words) => {
+            faults.check(!have_bad_braces(&words), place, Flaw::BadBraces)?;
+            Ok(words)
+        }
+        None => {
+            faults.add(place, Flaw::BadShape(place_of_bad_command(step)))?;
+            Ok(Words::new(faults.alloc()))
+        }
+    }
 }
 
 fn have_bad_braces(words: &Words) -> bool

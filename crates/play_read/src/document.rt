@@ -1,7 +1,7 @@
 //! From the value of a text to its plays.
 #![tactic(auto, using(play_rules::proofs::AddLaws::findings_in_turn))]
 
-ghost use Rattle.std.specs.Prelude.{◌≡◌, ◌+◌, ◌<◌, [], IfOk, OnOk, map, length, nat_lt, true};
+ghost use Rattle.std.specs.Prelude.{◌≡◌, ◌+◌, ◌<◌, [], IfOk, OnOk, map, length, nat_le, nat_lt, true};
 ghost use Rattle.std.specs.List.{AllZip};
 ghost use Rattle.serde_json.specs.View.{view};
 ghost use Rattle.play_rules.specs.Breaches.{Broken};
@@ -36,18 +36,25 @@ pub(crate) fn read_document(
     ensures says { IfOk result (λ plays. is_silent faults.new ≡ true → AllZip IsPlay (spec.plays_of (view document.now)) plays.items) }
 {
     let plays = listed(document);
-    check_number(faults, plays.len(), most)?;
-    if plays.len() > most {
+    let count = plays.len();
+    check_number(faults, count, most)?;
+    if !are_few(count, most) {
         return Ok(Vec::new(faults.alloc()));
     }
     read_each(faults, plays)
+}
+
+fn are_few(plays: usize, most: usize) -> bool
+    ensures { result ≡ nat_le plays most }
+{
+    plays <= most
 }
 
 fn check_number(faults: &mut FaultCollector, plays: usize, most: usize) -> Result<(), AllocError>
     ensures { OnOk result (Adds [] faults.old faults.new (map Broken (spec.bad_number most plays))) }
 {
     faults.check(plays > 0, Place::Top, Flaw::BadShape(Below::Itself))?;
-    faults.check(plays <= most, Place::Top, Flaw::ManyPlays)?;
+    faults.check(are_few(plays, most), Place::Top, Flaw::ManyPlays)?;
     Ok(())
 }
 

@@ -18,7 +18,7 @@ ghost use Rattle.play_read.specs.Reads.{IsPlay};
 
 use crate::handlers::read_handlers;
 use crate::notified::Handlers;
-use crate::steps::{are_readable, handlers_of, tasks_of};
+use crate::steps::{are_readable, handlers_of, is_object, tasks_of};
 use crate::tasks::read_tasks;
 use group_tree::Percentage;
 use play_model::{OnBlocked, Play, STEPS_BOUND, Size, Step};
@@ -56,7 +56,7 @@ pub(crate) fn read_one(
     ensures found { OnOk result (Adds [] faults.old faults.new (spec.checks_of_play (play_path place) place.told (view play.now))) }
     ensures says { OnOk result (is_silent faults.new ≡ true → (read : Play) × IsPlay (spec.play_of (view play.now)) read × (plays.new.items ≡ plays.old.items ++ read ∷ [])) }
 {
-    if !play.is_object() {
+    if !is_object(play) {
         return faults.add(Place::OfPlay(place), Flaw::BadShape(Below::Itself));
     }
     read_object(faults, place, play, plays)
@@ -174,13 +174,13 @@ fn read_steps(
     ensures found { OnOk result (Adds [] faults.old faults.new (spec.checks_of_steps (play_path place) place.told (view play.now))) }
     ensures says { IfOk result (λ steps. AllKept (spec.checks_of_steps (play_path place) place.told (view play.now)) → AreStepsOf (view play.now) steps) }
 {
-    let tasks = tasks_of(play);
+    let given = tasks_of(play);
+    let count = given.len();
+    let listed = handlers_of(play);
     let mut names = NameList::new(faults.alloc());
-    let handlers = read_handlers(faults, place, tasks.len(), handlers_of(play), &mut names)?;
-    let known = Handlers {
-        names,
-        readable: are_readable(play),
-    };
-    let tasks = read_tasks(faults, place, tasks, handlers.len(), &known)?;
+    let handlers = read_handlers(faults, place, count, listed, &mut names)?;
+    let readable = are_readable(play);
+    let known = Handlers { names, readable };
+    let tasks = read_tasks(faults, place, given, handlers.len(), &known)?;
     Ok(Steps { tasks, handlers })
 }

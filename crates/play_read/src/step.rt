@@ -16,6 +16,7 @@ ghost use Rattle.play_read.specs.Says.{SaysUnder};
 use crate::command::read_command;
 use crate::conditions::read_condition;
 use crate::held::put;
+use crate::steps::is_object;
 use play_model::{Step, Words};
 use play_rules::{
     Below, ConditionKey, FaultCollector, Flaw, Place, StepPlace, check_keys, read_ignore,
@@ -52,7 +53,7 @@ pub(crate) fn read_step(
     ensures found { OnOk result (Adds (step_path place) faults.old faults.new (spec.checks_of_step place.list (step_spot place) (view step.now))) }
     ensures says { OnOk result (AllKept (spec.checks_of_step place.list (step_spot place) (view step.now)) → IsStep (spec.handler_of (view step.now)) into.new) }
 {
-    if !step.is_object() {
+    if !is_object(step) {
         return faults.add(Place::OfStep(place), Flaw::BadShape(Below::Itself));
     }
     read_keys(faults, place, step, into)

@@ -1,4 +1,4 @@
-//! The lists `tasks` and `handlers` of a play.
+//! Shapes of plays and steps, and the lists `tasks` and `handlers` of a play.
 ghost use Rattle.std.specs.Prelude.{◌≡◌, [], map, unwrap_or};
 ghost use Rattle.serde_json.specs.Find.{get};
 ghost use Rattle.serde_json.specs.View.{view};
@@ -8,6 +8,12 @@ ghost use Rattle.play_rules.specs.Plays as spec;
 
 use serde_json::Value;
 use text_parts::elements_of;
+
+pub(crate) fn is_object(value: &Value) -> bool
+    ensures { result ≡ shapes.is_object (view value.now) }
+{
+    value.is_object()
+}
 
 /// The tasks of a play; none where `tasks` is missing or no list.
 pub(crate) fn tasks_of(play: &Value) -> &[Value]

@@ -11,6 +11,7 @@ pub mod Steps
 pub mod Plays
 pub mod Worked
 pub mod Checks
+pub mod Telling
 pub mod Faults
 pub mod Told
 pub mod ToldFaults

@@ -8,4 +8,3 @@ pub mod PatternLemmas
 pub mod ListLaws
 pub mod Digits
 pub mod BreachLaws
-pub mod Tellings

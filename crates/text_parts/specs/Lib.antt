@@ -7,6 +7,5 @@ pub mod Patterns
 pub mod Shapes
 pub mod Numerals
 pub mod Breaches
-pub mod Telling
 pub mod Texts
 pub mod Keys

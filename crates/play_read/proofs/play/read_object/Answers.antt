@@ -1,13 +1,13 @@
 use Rattle.std.proofs.Common.{◌≡◌, ◌++◌, ◌∷◌, [], Bool, List, Global, sym, ap, ◌∙◌}
 use Rattle.std.specs.Prelude.{if◌then◌else◌}
 use Rattle.std.specs.String.{string_bytes}
-use Rattle.std.proofs.lemmas.Bool.{leb-true}
+use Rattle.std.proofs.lemmas.Bool.{both_ways, leb-true}
 use Rattle.std.proofs.lemmas.Result.{on_ok_weaker}
 use Rattle.serde_json.specs.View.{view}
 use Rattle.play_rules.specs.Breaches.{Broken, TooManySteps, all_in}
 use Rattle.play_rules.specs.Places.{play_path}
 use Rattle.play_rules.specs.Plays.{checks_of_counted, checks_of_front, checks_of_steps, has_few_steps}
-use Rattle.play_rules.proofs.AddLaws.{adds_inside, adds_two}
+use Rattle.play_rules.proofs.AddLaws.{adds_inside, adds_two, kept_in_silence}
 use Rattle.play_read.proofs.WholePlay as whole
 use Rattle.play_read.proofs.play.read_object.Goals as goal
 
@@ -89,3 +89,13 @@ returns-clause-says c = λ silent.
       },
       c.in_ok-push.ensures.items,
     )
+
+pub returns-then-not-has_few_steps-clause-says : goal.returns-then-not-has_few_steps-clause-says
+returns-then-not-has_few_steps-clause-says c =
+    on_ok_weaker c.add.result
+    (λ added silent. absurd (kept_in_silence (play_path c.args.place) _ _ (Broken TooManySteps ∷ []) added silent))
+    c.add.ensures
+
+pub returns-then-not-is_empty-clause-says : goal.returns-then-not-is_empty-clause-says
+returns-then-not-is_empty-clause-says c = λ silent.
+    absurd (both_ways _ (sym c.is_empty.ensures ∙ c.if-not-is_empty.true) silent)
