@@ -1,6 +1,6 @@
 -- Handlers that are named and aren't there.
-use Rattle.std.proofs.Common.{◌≡◌, ℕ, ◌+◌, ◌<◌, List, [], ◌∷◌, ◌++◌, map, drop, get_or, length, ap, ◌∙◌}
-use Rattle.std.specs.Prelude.{filter}
+use Rattle.std.proofs.Common.{◌≡◌, ℕ, ◌+◌, ◌<◌, Bool, true, false, not, cond, List, [], ◌∷◌, ◌++◌, map, drop, get_or, length, refl, ap, ◌∙◌}
+use Rattle.std.specs.Prelude.{filter, if◌then◌else◌}
 use Rattle.std.specs.List.{filter_map}
 use Rattle.std.proofs.lemmas.List.{map-append}
 use Rattle.std.proofs.lemmas.List.Elements.{filter-append, filter_map-append}
@@ -8,13 +8,13 @@ use Rattle.serde_json.specs.Data.{Data}
 use Rattle.serde_json.specs.Find.{as_str}
 use Rattle.serde_json.specs.View.{view}
 use Rattle.serde_json.specs.declared.value.Value.{Value}
-use Rattle.group_tree.specs.Names.{Name}
-use Rattle.play_rules.specs.Breaches.{Broken, Check, NoSuchHandler}
+use Rattle.group_tree.specs.Names.{Name, is_among}
+use Rattle.play_rules.specs.Breaches.{Broken, Check, NoSuchHandler, unless}
 use Rattle.play_rules.specs.Known.{texts}
-use Rattle.play_rules.specs.Names.{once}
+use Rattle.play_rules.specs.Names.{once, once_more}
 use Rattle.play_rules.specs.Steps.{is_missing}
 use Rattle.play_rules.proofs.Lists.{left_at}
-use Rattle.play_rules.proofs.NameLaws.{once-append}
+use Rattle.play_rules.proofs.NameLaws.{once-append, once_alone}
 
 abbrev pub missing_behind : List Name → List Name → List Name → List Check
 missing_behind handlers before names = map Broken (map NoSuchHandler (once before (filter (is_missing handlers) names)))
@@ -34,3 +34,20 @@ missing_on handlers before names index item within is =
     ∙ ap (λ (l : List Name). map Broken (map NoSuchHandler l)) (once-append before front back)
     ∙ ap (map Broken) (map-append NoSuchHandler (once before front) (once (before ++ once before front) back))
     ∙ map-append Broken (map NoSuchHandler (once before front)) (map NoSuchHandler (once (before ++ once before front) back))
+
+-- what is missing of one name: nothing where a handler has it, else the name where it is new
+pub with_handler : (handlers before : List Name) (name : Name) → is_among name handlers ≡ true → once before (filter (is_missing handlers) (name ∷ [])) ≡ []
+with_handler handlers before name is = ap (λ (b : Bool). once before (cond (not b) (name ∷ []) [])) is
+
+pub without_handler : (handlers before : List Name) (name : Name) → is_among name handlers ≡ false → once before (filter (is_missing handlers) (name ∷ [])) ≡ once_more before name
+without_handler handlers before name is = ap (λ (b : Bool). once before (cond (not b) (name ∷ []) [])) is ∙ once_alone before name
+
+-- a new name is told
+new_by : (before : List Name) (name : Name) (among new : Bool) → new ≡ not among → map Broken (unless (not new) (NoSuchHandler name)) ≡ map Broken (map NoSuchHandler (if among then [] else name ∷ []))
+new_by before name true true e = absurd (cc)
+new_by before name true false e = refl
+new_by before name false true e = refl
+new_by before name false false e = absurd (cc)
+
+pub told_new : (before : List Name) (name : Name) (new : Bool) → new ≡ not (is_among name before) → map Broken (unless (not new) (NoSuchHandler name)) ≡ map Broken (map NoSuchHandler (once_more before name))
+told_new before name new is = new_by before name (is_among name before) new is

@@ -102,7 +102,7 @@ fn join(
     ensures says { OnOk result (AllKept (where_given (spec.asked_of (spot_of place) (key_name key)) (spec.clause_of (view value.now))) → IsMore (spec.clause_of (view value.now)) all.old all.new) }
 {
     match clause_of(value) {
-        Some(Clause::Truth(truth)) => all.add_truth(truth),
+        Some(Clause::Truth(truth)) => Ok(all.add_truth(truth)?),
         Some(Clause::Text(text)) => join_text(faults, place, key, all, text),
         None => Ok(()),
     }

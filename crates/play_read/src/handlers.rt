@@ -7,7 +7,7 @@ ghost use Rattle.serde_json.specs.View.{view};
 ghost use Rattle.play_rules.specs.Breaches.{Broken};
 ghost use Rattle.play_rules.specs.Checks.{AllKept};
 ghost use Rattle.play_rules.specs.Known.{known};
-ghost use Rattle.play_rules.specs.Names.{once};
+ghost use Rattle.play_rules.specs.Names.{once, once_more};
 ghost use Rattle.play_rules.specs.Places.{path_at, play_path, step_path, step_spot};
 ghost use Rattle.play_rules.specs.Plays.{checks_of_handlers};
 ghost use Rattle.play_rules.specs.Steps as spec;
@@ -32,11 +32,24 @@ fn check_name<'a>(
     ensures found { OnOk result (Adds (path_at place) faults.old faults.new (map Broken (spec.twice_named (known names.old) (view handler.now)))) }
     ensures names { OnOk result (known names.new ≡ known names.old ++ once (known names.old) (filter_map spec.name_in (view handler.now ∷ []))) }
 {
-    let Some(name) = name_in(handler) else {
-        return Ok(());
-    };
+    match name_in(handler) {
+        Some(name) => add_name(faults, place, names, name),
+        None => Ok(()),
+    }
+}
+
+fn add_name<'a>(
+    faults: &mut FaultCollector,
+    place: Place,
+    names: &mut NameList<'a>,
+    name: &'a str,
+) -> Result<(), AllocError>
+    ensures found { OnOk result (Adds (path_at place) faults.old faults.new (map Broken (spec.twice (known names.old) name.now))) }
+    ensures names { OnOk result (known names.new ≡ known names.old ++ once_more (known names.old) name.now) }
+{
     let is_new = names.add(name)?;
-    faults.check(is_new, place, Flaw::TwiceHandler(name))
+    faults.check(is_new, place, Flaw::TwiceHandler(name))?;
+    Ok(())
 }
 
 /// Reads a handler into a step that notifies nobody, and then whether its name stood before.

@@ -70,7 +70,6 @@ fn check_each(
     Ok(())
 }
 
-/// A name that is no handler's, and that the task has named before, is told already.
 fn check_one<'a>(
     faults: &mut FaultCollector,
     place: Place,
@@ -81,14 +80,29 @@ fn check_one<'a>(
     ensures found { OnOk result (Adds (path_at place) faults.old faults.new (map Broken (map NoSuchHandler (once (known before.old) (filter (spec.is_missing (known handlers.now)) (filter_map as_str (view name.now ∷ []))))))) }
     ensures names { OnOk result (known before.new ≡ known before.old ++ once (known before.old) (filter (spec.is_missing (known handlers.now)) (filter_map as_str (view name.now ∷ [])))) }
 {
-    let Some(name) = name.as_str() else {
-        return Ok(());
-    };
+    match name.as_str() {
+        Some(name) => check_name(faults, place, handlers, before, name),
+        None => Ok(()),
+    }
+}
+
+/// A name that is no handler's, and that the task has named before, is told already.
+fn check_name<'a>(
+    faults: &mut FaultCollector,
+    place: Place,
+    handlers: &NameList<'_>,
+    before: &mut NameList<'a>,
+    name: &'a str,
+) -> Result<(), AllocError>
+    ensures found { OnOk result (Adds (path_at place) faults.old faults.new (map Broken (map NoSuchHandler (once (known before.old) (filter (spec.is_missing (known handlers.now)) (name.now ∷ [])))))) }
+    ensures names { OnOk result (known before.new ≡ known before.old ++ once (known before.old) (filter (spec.is_missing (known handlers.now)) (name.now ∷ []))) }
+{
     if handlers.has(name) {
         return Ok(());
     }
     let is_new = before.add(name)?;
-    faults.check(!is_new, place, Flaw::NoSuchHandler(name))
+    faults.check(!is_new, place, Flaw::NoSuchHandler(name))?;
+    Ok(())
 }
 
 fn numbers_of(

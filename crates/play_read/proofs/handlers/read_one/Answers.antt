@@ -1,9 +1,11 @@
-use Rattle.std.proofs.Common.{map}
+use Rattle.std.proofs.Common.{◌++◌, map, ap}
 use Rattle.serde_json.specs.View.{view}
 use Rattle.play_rules.specs.Breaches.{Broken}
 use Rattle.play_rules.specs.Known.{known}
-use Rattle.play_rules.specs.Places.{step_spot}
+use Rattle.play_rules.specs.Places.{step_path, step_spot}
 use Rattle.play_rules.specs.Steps.{checks_of_step, twice_named}
+use Rattle.play_rules.specs.declared.place.StepList.{StepList}
+use Rattle.play_rules.proofs.AddLaws.{adds_two}
 use Rattle.play_rules.proofs.CheckLaws.{kept_parts}
 use Rattle.play_read.proofs.handlers.read_one.Goals as goal
 
@@ -12,3 +14,11 @@ returns-clause-says c = λ kept.
     let handler = view c.args.handler.now in
     let own = checks_of_step c.args.place.list (step_spot c.args.place) handler in
     c.in_ok-read_step.ensures.says (kept_parts own (map Broken (twice_named (known c.args.names.now) handler)) (rw c.requires.handler kept)).0
+
+pub returns-clause-found : goal.returns-clause-found
+returns-clause-found c =
+    let handler = view c.args.handler.now in
+    let spot = step_spot c.args.place in
+    let later = map Broken (twice_named (known c.args.names.now) handler) in
+    adds_two (step_path c.args.place) _ _ _ (checks_of_step c.args.place.list spot handler) later _ c.in_ok-read_step.ensures.found c.in_ok-check_name.ensures.found
+    (ap (λ (list : StepList). checks_of_step list spot handler ++ later) c.requires.handler)

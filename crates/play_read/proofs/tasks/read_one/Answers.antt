@@ -1,9 +1,11 @@
-use Rattle.std.proofs.Common.{◌++◌, map, ◌∙◌}
+use Rattle.std.proofs.Common.{◌++◌, map, ap}
 use Rattle.serde_json.specs.View.{view}
 use Rattle.play_rules.specs.Breaches.{Broken}
 use Rattle.play_rules.specs.Known.{known}
-use Rattle.play_rules.specs.Places.{step_spot}
+use Rattle.play_rules.specs.Places.{step_path, step_spot}
 use Rattle.play_rules.specs.Steps.{bad_notify, checks_of_step, missing_handlers}
+use Rattle.play_rules.specs.declared.place.StepList.{StepList}
+use Rattle.play_rules.proofs.AddLaws.{adds_two}
 use Rattle.play_rules.proofs.CheckLaws.{kept_parts}
 use Rattle.play_read.proofs.tasks.read_one.Goals as goal
 
@@ -24,3 +26,12 @@ returns-clause-says c = λ kept.
       ignore_errors = is.ignore_errors;
       notify = c.in_ok-numbers.ensures.says;
     }
+
+pub returns-clause-found : goal.returns-clause-found
+returns-clause-found c =
+    let task = view c.args.task.now in
+    let handlers = c.args.handlers.now in
+    let spot = step_spot c.args.place in
+    let later = map Broken (bad_notify task) ++ map Broken (missing_handlers handlers.readable (known handlers.names) task) in
+    adds_two (step_path c.args.place) _ _ _ (checks_of_step c.args.place.list spot task) later _ c.in_ok-read_step.ensures.found c.in_ok-numbers.ensures.found
+    (ap (λ (list : StepList). checks_of_step list spot task ++ later) c.requires.task)
