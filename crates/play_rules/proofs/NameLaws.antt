@@ -3,7 +3,7 @@ use Rattle.std.proofs.Common.{◌≡◌, Bool, ℕ, ◌+◌, true, false, Some, 
 use Rattle.std.specs.Borrow.{Bor}
 use Rattle.std.specs.List.{position, position_or_len, list_any}
 use Rattle.std.specs.Prelude.{if◌then◌else◌}
-use Rattle.std.proofs.lemmas.List.{length-map}
+use Rattle.std.proofs.lemmas.List.{length-map, map-append}
 use Rattle.group_tree.specs.Names.{Name, same_name, is_among}
 use Rattle.group_tree.proofs.MemberLemmas.{list_any-map}
 use Rattle.play_rules.specs.Names.{once, once_more}
@@ -43,3 +43,11 @@ more_new before name new = ap (λ (b : Bool). if b then [] else name ∷ []) new
 
 pub more_old : (before : List Name) (name : Name) → is_among name before ≡ true → once_more before name ≡ []
 more_old before name old = ap (λ (b : Bool). if b then [] else name ∷ []) old
+
+-- with a name behind those that are lent
+pub lent_more : (names : List (Bor Name)) (name : Bor Name) (among : Bool) → is_among name.now (lent_texts names) ≡ among
+    → lent_texts (if among then names else names ++ name ∷ []) ≡ lent_texts names ++ once_more (lent_texts names) name.now
+lent_more names name true old =
+    sym (append-nil (lent_texts names)) ∙ ap (λ (more : List Name). lent_texts names ++ more) (sym (more_old (lent_texts names) name.now old))
+lent_more names name false new =
+    map-append (λ (text : Bor Name). text.now) names (name ∷ []) ∙ ap (λ (more : List Name). lent_texts names ++ more) (sym (more_new (lent_texts names) name.now new))
