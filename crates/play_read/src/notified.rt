@@ -1,7 +1,7 @@
 //! The handlers that a task notifies.
 #![tactic(auto, using(play_rules::proofs::AddLaws::findings_in_turn))]
 
-ghost use Rattle.std.specs.Prelude.{◌≡◌, ◌∷◌, ◌++◌, [], IfOk, OnOk, filter, map};
+ghost use Rattle.std.specs.Prelude.{◌≡◌, ◌∷◌, ◌++◌, [], IfOk, OnOk, filter, if◌then◌else◌, map};
 ghost use Rattle.std.specs.List.{filter_map};
 ghost use Rattle.serde_json.specs.Find.{as_str};
 ghost use Rattle.serde_json.specs.View.{view};
