@@ -4,8 +4,8 @@ use Rattle.std.proofs.lemmas.Bool.{and_parts, eqb-true}
 use Rattle.std.proofs.lemmas.List.{nil_from_length}
 use Rattle.domains.specs.FleetViews.{FleetView}
 use Rattle.play_model.specs.declared.play.Play.{Play}
-use Rattle.play_rules.specs.Telling.{Telling, nothing_told}
-use Rattle.play_rules.proofs.Tellings.{told_of, with_none}
+use Rattle.text_parts.specs.Telling.{Telling, nothing_told}
+use Rattle.text_parts.proofs.Tellings.{told_of, with_none}
 use Rattle.play_rules.specs.Checks.{Named}
 use Rattle.play_read.specs.Reads.{AreToldOf, IsReadAs}
 use Rattle.play_rules.specs.Faults.{named_of}

@@ -1,7 +1,7 @@
 //! Names in patterns of hosts that name nothing.
 ghost use Rattle.std.specs.Prelude.{◌≡◌, ◌+◌, ◌∷◌, ◌++◌, [], IfOk, OnOk, filter, length, map, nat_lt, not};
 ghost use Rattle.text_parts.specs.Patterns.{parts_of};
-ghost use Rattle.play_rules.specs.Telling.{nothing_told, with_breaches};
+ghost use Rattle.text_parts.specs.Telling.{nothing_told, with_breaches};
 ghost use Rattle.domains.specs.Patterns.{names_nothing};
 ghost use Rattle.play_rules.specs.Known.{known};
 ghost use Rattle.play_rules.specs.Names.{once};
@@ -33,7 +33,7 @@ struct NameCollector {
 impl Model for NameCollector {
     ghost use Rattle.std.specs.Prelude.{map};
     ghost use Rattle.group_tree.specs.Names.{Name};
-    ghost use Rattle.play_rules.specs.Telling.{Telling};
+    ghost use Rattle.text_parts.specs.Telling.{Telling};
     ghost use Rattle.every_fault.specs.PatternNames.{name_told};
 
     ghost Value = { Telling Name };

@@ -1,7 +1,6 @@
 pub mod Depths
 pub mod Groups
 pub mod Merges
-pub mod Tellings
 pub mod Repeats
 pub mod Counts
 pub mod Builds

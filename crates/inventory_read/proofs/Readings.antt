@@ -8,11 +8,11 @@ use Rattle.text_parts.specs.Texts.{BreaksFirst}
 use Rattle.inventory_read.specs.Faults.{breach_of}
 use Rattle.inventory_read.specs.Reads.{AreAllOf, IsFirstOf, IsTrueOf}
 use Rattle.inventory_read.specs.Rules.{Breach, NotJson}
-use Rattle.inventory_read.specs.Telling.{Telling, nothing_told, with_breaches}
+use Rattle.text_parts.specs.Telling.{Telling, nothing_told, with_breaches}
 use Rattle.inventory_read.specs.ToldFaults.{AreTold, AreFaultsOf, is_empty}
 use Rattle.inventory_read.specs.declared.fault.ReadFault.{ReadFault}
 use Rattle.inventory_read.specs.declared.told.Told.{Told}
-use Rattle.inventory_read.proofs.Tellings.{more_of, none_of, told_of}
+use Rattle.text_parts.proofs.Tellings.{more_of, none_of, told_of}
 
 -- these breaches were collected
 pub are_told : (most : ℕ) (breaches : List Breach) (t : Telling Breach) (told : Told) → t ≡ with_breaches (nothing_told most) breaches

@@ -4,7 +4,6 @@ pub mod Named
 pub mod Values
 pub mod Paths
 pub mod Rules
-pub mod Telling
 pub mod Listings
 pub mod Faults
 pub mod Reads

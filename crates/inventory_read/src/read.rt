@@ -10,7 +10,7 @@ ghost use Rattle.inventory_read.specs.Keys.{all_key};
 ghost use Rattle.inventory_read.specs.Listings.{child_of};
 ghost use Rattle.inventory_read.specs.Reads.{IsReadAs, IsTrueOf};
 ghost use Rattle.inventory_read.specs.Rules as rules;
-ghost use Rattle.inventory_read.specs.Telling.{with_breaches};
+ghost use Rattle.text_parts.specs.Telling.{with_breaches};
 ghost use Rattle.inventory_read.specs.ToldFaults.{AreTold, AreFaultsOf, is_empty};
 ghost use Rattle.inventory_read.specs.Values as values;
 

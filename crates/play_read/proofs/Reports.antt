@@ -5,9 +5,9 @@ use Rattle.std.proofs.lemmas.Bool.{and_from, and_parts, both_ways, eq-eqb, eqb-t
 use Rattle.std.proofs.lemmas.List.{length-map}
 use Rattle.std.proofs.lemmas.Slice.Zip.{AllZip-long}
 use Rattle.std.specs.Prelude.{nat_le, nat_lt}
-use Rattle.play_rules.specs.Telling.{nothing_told, with_breaches}
+use Rattle.text_parts.specs.Telling.{nothing_told, with_breaches}
 use Rattle.text_parts.specs.Texts.{BreaksFirst}
-use Rattle.play_rules.proofs.Tellings.{more_of, none_of, told_of}
+use Rattle.text_parts.proofs.Tellings.{more_of, none_of, told_of}
 use Rattle.play_rules.specs.Breaches.{BadShape, Breach, Broken, Check, ManyPlays, NotJson, unless}
 use Rattle.play_rules.specs.Checks.{AllKept, Named, rule}
 use Rattle.play_rules.specs.Faults.{named_of}

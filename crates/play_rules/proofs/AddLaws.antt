@@ -2,8 +2,8 @@
 use Rattle.std.proofs.Common.{◌≡◌, ℕ, ◌+◌, ◌<◌, ◌≤◌, Bool, true, Option, Some, List, [], ◌∷◌, ◌++◌, length, get_or, drop, map, flat_map, refl, sym, ap, ◌∙◌, subst, inl, inr, append-nil}
 use Rattle.std.proofs.lemmas.Bool.{and_parts, eqb-true, eq-eqb, and_from}
 use Rattle.std.proofs.lemmas.List.{map-append}
-use Rattle.play_rules.specs.Telling.{Telling, with_breaches}
-use Rattle.play_rules.proofs.Tellings.{after, silent_parts, with_none}
+use Rattle.text_parts.specs.Telling.{Telling, with_breaches}
+use Rattle.text_parts.proofs.Tellings.{after, silent_parts, with_none}
 use Rattle.play_rules.specs.Breaches as rules
 use Rattle.play_rules.specs.Breaches.{Breach, Check, Broken, Asked, Spot, all_in, breach_in, check_in, unless}
 use Rattle.play_rules.specs.Checks.{IsCondition, Named, rule, condition, AllKept}

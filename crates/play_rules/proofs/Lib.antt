@@ -3,7 +3,6 @@ pub mod EntryLaws
 pub mod PlaceLaws
 pub mod PathLaws
 pub mod CheckLaws
-pub mod Tellings
 pub mod AddLaws
 pub mod NameLaws
 pub mod FaultLaws

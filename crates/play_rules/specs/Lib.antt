@@ -11,7 +11,6 @@ pub mod Steps
 pub mod Plays
 pub mod Worked
 pub mod Checks
-pub mod Telling
 pub mod Faults
 pub mod Told
 pub mod ToldFaults

@@ -4,7 +4,7 @@ use Rattle.cond.specs.Conditions.{Breaks}
 use Rattle.cond.specs.Faults.{number_of}
 use Rattle.cond.specs.declared.fault.CondFault.{CondFault}
 use Rattle.group_tree.specs.Names.{Name}
-use Rattle.play_rules.specs.Telling.{Telling, with_breaches}
+use Rattle.text_parts.specs.Telling.{Telling, with_breaches}
 use Rattle.play_rules.specs.Breaches.{Check, Broken, Asked, Spot, all_in}
 use Rattle.play_rules.specs.Checks.{IsCondition, Named, rule, condition}
 use Rattle.play_rules.specs.Paths.{Path}

@@ -1,6 +1,6 @@
 -- The faults that are found.
 use Rattle.std.specs.Prelude.{◌≡◌, ℕ, ◌-◌, ◌==◌, Bool, ◌&&◌, Some, List, map, take, length}
-use Rattle.play_rules.specs.Telling.{Telling}
+use Rattle.text_parts.specs.Telling.{Telling}
 use Rattle.play_rules.specs.Checks.{Named}
 use Rattle.play_rules.specs.Faults.{named_of}
 use Rattle.play_rules.specs.declared.told.Told.{Told}

@@ -2,7 +2,7 @@
 ghost use Rattle.std.specs.Prelude.{◌≡◌, ◌≢◌, ◌+◌, ◌++◌, ◌∷◌, [], ℕ, List, Some, OnOk, is_some, length, map, nat_lt, true};
 ghost use Rattle.cond.specs.Conditions.{Breaks};
 ghost use Rattle.cond.specs.Faults.{number_of};
-ghost use Rattle.play_rules.specs.Telling.{nothing_told, with_breaches};
+ghost use Rattle.text_parts.specs.Telling.{nothing_told, with_breaches};
 ghost use Rattle.play_rules.specs.Breaches.{Asked, Broken, unless};
 ghost use Rattle.play_rules.specs.Checks.{IsCondition, Named};
 ghost use Rattle.play_rules.specs.Faults.{key_name, named_of};
@@ -32,7 +32,7 @@ pub struct FaultCollector {
 
 impl Model for FaultCollector {
     ghost use Rattle.std.specs.Prelude.{map};
-    ghost use Rattle.play_rules.specs.Telling.{Telling};
+    ghost use Rattle.text_parts.specs.Telling.{Telling};
     ghost use Rattle.play_rules.specs.Checks.{Named};
     ghost use Rattle.play_rules.specs.Faults.{named_of};
 

@@ -8,3 +8,4 @@ pub mod PatternLemmas
 pub mod ListLaws
 pub mod Digits
 pub mod BreachLaws
+pub mod Tellings

@@ -7,5 +7,6 @@ pub mod Patterns
 pub mod Shapes
 pub mod Numerals
 pub mod Breaches
+pub mod Telling
 pub mod Texts
 pub mod Keys

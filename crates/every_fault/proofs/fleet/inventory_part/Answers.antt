@@ -3,11 +3,11 @@ use Rattle.std.proofs.lemmas.Result.{IfOk-weaker}
 use Rattle.group_tree.specs.Places.{Inventory}
 use Rattle.inventory_read.specs.Faults.{breach_of}
 use Rattle.inventory_read.specs.Reads.{IsReadAs}
-use Rattle.inventory_read.specs.Telling.{nothing_told}
+use Rattle.text_parts.specs.Telling.{nothing_told}
 use Rattle.inventory_read.specs.ToldFaults.{AreToldOf, AreFaultsOf}
 use Rattle.inventory_read.specs.declared.told.Told.{Told}
 use Rattle.inventory_read.proofs.Readings.{are_told}
-use Rattle.inventory_read.proofs.Tellings.{with_none}
+use Rattle.text_parts.proofs.Tellings.{with_none}
 use Rattle.every_fault.specs.Inventories.{IsFleetPart}
 use Rattle.every_fault.proofs.fleet.inventory_part.Goals as goal
 

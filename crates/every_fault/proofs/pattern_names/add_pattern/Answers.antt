@@ -2,8 +2,8 @@ use Rattle.std.proofs.Common.{rules, ◌≡◌, List, [], ◌∷◌, ◌++◌, s
 use Rattle.std.specs.Prelude.{filter}
 use Rattle.group_tree.specs.Names.{Name}
 use Rattle.text_parts.specs.Patterns.{parts_of}
-use Rattle.play_rules.specs.Telling.{with_breaches}
-use Rattle.play_rules.proofs.Tellings.{all_told, pass}
+use Rattle.text_parts.specs.Telling.{with_breaches}
+use Rattle.text_parts.proofs.Tellings.{all_told, pass}
 use Rattle.domains.specs.Patterns.{names_nothing}
 use Rattle.play_rules.specs.Known.{known}
 use Rattle.play_rules.specs.Names.{once}

@@ -3,7 +3,7 @@ use denote.Text.{Utf8}
 use denote.Shadow.{shadow}
 use Rattle.std.specs.Prelude.{filter}
 use Rattle.text_parts.specs.Patterns.{parts_of}
-use Rattle.play_rules.specs.Telling.{with_breaches}
+use Rattle.text_parts.specs.Telling.{with_breaches}
 use Rattle.domains.specs.Patterns.{names_nothing}
 use Rattle.play_rules.specs.Known.{known}
 use Rattle.play_rules.specs.Names.{once}

@@ -3,8 +3,8 @@ use Rattle.std.proofs.lemmas.List.{drop_all, drop_more}
 use Rattle.group_tree.specs.Names.{Name}
 use Rattle.play_model.specs.declared.play.Play.{Play}
 use Rattle.text_parts.specs.Patterns.{parts_of}
-use Rattle.play_rules.specs.Telling.{Telling, nothing_told, with_breaches}
-use Rattle.play_rules.proofs.Tellings.{all_told, more_of, pass, told_of}
+use Rattle.text_parts.specs.Telling.{Telling, nothing_told, with_breaches}
+use Rattle.text_parts.proofs.Tellings.{all_told, more_of, pass, told_of}
 use Rattle.every_fault.specs.PatternNames.{unknown_among, unknown_in, unknown_names}
 use Rattle.every_fault.proofs.pattern_names.pattern_faults.Goals as goal
 

@@ -1,5 +1,5 @@
 use Rattle.std.proofs.Common.{◌≡◌, drop, flat_map}
-use Rattle.play_rules.specs.Telling.{with_breaches}
+use Rattle.text_parts.specs.Telling.{with_breaches}
 use Rattle.every_fault.specs.PatternNames.{unknown_in}
 use Rattle.every_fault.proofs.pattern_names.pattern_faults.Given as goal
 

@@ -1,5 +1,5 @@
 use Rattle.std.proofs.Common.{[], ◌∷◌, ap, ◌∙◌}
-use Rattle.play_rules.specs.Telling.{nothing_told, with_breaches}
+use Rattle.text_parts.specs.Telling.{nothing_told, with_breaches}
 use Rattle.play_rules.specs.Breaches.{NotJson}
 use Rattle.play_rules.specs.Checks.{rule}
 use Rattle.play_rules.proofs.AddLaws.{T}

@@ -1,6 +1,6 @@
 use Rattle.std.proofs.Common.{[], List, ap, sym, ◌∙◌, subst}
 use Rattle.serde_json.specs.View.{view}
-use Rattle.play_rules.specs.Telling.{with_breaches}
+use Rattle.text_parts.specs.Telling.{with_breaches}
 use Rattle.play_rules.specs.Breaches.{Check}
 use Rattle.play_rules.specs.Plays.{checks}
 use Rattle.play_rules.specs.Told.{Tells}

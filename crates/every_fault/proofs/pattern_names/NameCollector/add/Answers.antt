@@ -1,6 +1,6 @@
 use Rattle.std.proofs.Common.{List, ℕ, Some, ap, sym, ◌∙◌}
 use Rattle.std.proofs.lemmas.Result.{on_ok_weaker}
-use Rattle.play_rules.proofs.Tellings.{told_where, left_where}
+use Rattle.text_parts.proofs.Tellings.{told_where, left_where}
 use Rattle.every_fault.proofs.pattern_names.NameCollector.add.Goals as goal
 
 pub returns-then-not-has_room : goal.returns-then-not-has_room

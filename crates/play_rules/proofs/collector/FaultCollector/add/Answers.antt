@@ -1,6 +1,6 @@
 use Rattle.std.proofs.Common.{refl, sym, ◌∙◌}
 use Rattle.std.proofs.lemmas.Result.{on_ok_weaker}
-use Rattle.play_rules.proofs.Tellings.{told_where, left_where}
+use Rattle.text_parts.proofs.Tellings.{told_where, left_where}
 use Rattle.play_rules.specs.Checks.{rule}
 use Rattle.play_rules.specs.Places.{path_at, spot_of}
 use Rattle.play_rules.specs.Verdicts.{breach_at, breach_from}

@@ -1,6 +1,6 @@
 use Rattle.std.proofs.Common.{sym, ◌∙◌}
 use Rattle.std.proofs.lemmas.Result.{on_ok_weaker}
-use Rattle.play_rules.proofs.Tellings.{told_where, left_where}
+use Rattle.text_parts.proofs.Tellings.{told_where, left_where}
 use Rattle.play_rules.proofs.collector.FaultCollector.add_fault.Goals as goal
 
 pub returns-then-has_room : goal.returns-then-has_room

@@ -5,7 +5,7 @@ use Rattle.std.proofs.lemmas.Bool.{ltb-true, ltb-false}
 use Rattle.text_parts.specs.Breaches.{unless}
 use Rattle.std.proofs.lemmas.Grind.{flat_map-append}
 use Rattle.std.proofs.lemmas.List.{map-append, length-map, length-take, take_all}
-use Rattle.inventory_read.specs.Telling.{Telling, room, with_breaches, nothing_told}
+use Rattle.text_parts.specs.Telling.{Telling, room, with_breaches, nothing_told}
 
 -- the first of two lists, one after the other
 take_both : {X : Type 0} (r : ℕ) (xs ys : List X) → take r xs ++ take (r - length xs) ys ≡ take r (xs ++ ys)
@@ -85,11 +85,16 @@ module _ {Breach : Type 0} where
   no_length [] e = refl
   no_length (x ∷ xs) e = absurd (omega arith)
 
-  -- where nothing was told and nothing left out, there was nothing
+  -- where nothing is told and nothing left out, there was nothing, neither then nor before
+  pub silent_parts : (t : Telling Breach) (xs : List Breach) → length (with_breaches t xs).told ≡ 0 → (with_breaches t xs).more ≡ 0 → (xs ≡ []) × (length t.told ≡ 0) × (t.more ≡ 0)
+  unfolding with_breaches
+  silent_parts t xs told more =
+      let parts = length-append t.told (map Some (take (room t) xs)) in
+      let taken = length-map (take (room t) xs) Some in
+      (no_length xs (omega (arith, told, more, parts, taken, length-take (room t) xs)), omega (arith, told, parts), omega (arith, more))
+
   pub none_of : (most : ℕ) (xs : List Breach) → length (with_breaches (nothing_told most) xs).told ≡ 0 → (with_breaches (nothing_told most) xs).more ≡ 0 → xs ≡ []
-  none_of most xs told more =
-      let taken : length (map Some (take most xs)) ≡ 0 = sym (ap length (told_of most xs)) ∙ told in
-      no_length xs (omega (arith, taken, length-map (take most xs) Some, length-take most xs, more_of most xs, more))
+  none_of most xs told more = (silent_parts (nothing_told most) xs told more).0
 
   -- steps of telling, one after another
   pub after : (t u v : Telling Breach) (xs ys : List Breach) → u ≡ with_breaches t xs → v ≡ with_breaches u ys → v ≡ with_breaches t (xs ++ ys)
