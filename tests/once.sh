@@ -10,7 +10,7 @@ trap 'rm -rf "$work"' EXIT
 passed=0
 failed=0
 
-# A repository of roll_core and ticket_line, of what they stand on, and of a crate that uses them.
+# A repository of roll_core and ticket_channel, of what they stand on, and of a crate that uses them.
 mkdir -p "$work/crates/once/src"
 cp "$top/HANDLES" "$work"
 (cd "$work" && git init -q .)
@@ -28,8 +28,8 @@ add() {
     done
 }
 add roll_core
-add ticket_line
-echo 'once: domains fleet_states host_vars play_model roll_core ticket_line' >>"$work/crates.txt"
+add ticket_channel
+echo 'once: domains fleet_states host_vars play_model roll_core ticket_channel' >>"$work/crates.txt"
 
 # tried WANTED: what `rt` says first of a crate with the function on standard input
 tried() {
@@ -44,13 +44,13 @@ use domains::Fleet;
 use fleet_states::Status;
 use host_vars::Vars;
 use play_model::Play;
-use roll_core::{Board, Claim, Done, Go, History, Job, Outcome, Runner, Tally, Unwatched};
+use roll_core::{Board, Claim, Done, Go, History, Job, Outcome, Runner, Tally, NoObserver};
 use std::alloc::{AllocError, Global};
 use std::process::{Processes, SystemProcess};
 use std::sync::Wait;
 use std::sync::ledger::{Blank, Ledger};
 use std::thread::Threads;
-use ticket_line::PutEnd;
+use ticket_channel::ChannelSender;
 
 #[cfg(test)]
 mod tests {
@@ -102,13 +102,13 @@ pub fn report_twice<'r, R: Runner>(done: Done<'r, R>) -> (Done<'r, R>, Done<'r, 
 }
 E2
 tried 'error\[borrow-e0382\]: use of moved value: `ticket`' <<'E2'
-pub fn put_twice<T: Drop, H: Wait>(end: &mut PutEnd<T>, rt: &H, ticket: T) {
+pub fn put_twice<T: Drop, H: Wait>(end: &mut ChannelSender<T>, rt: &H, ticket: T) {
     let _ = end.put(rt, ticket);
     let _ = end.put(rt, ticket);
 }
 E2
 tried 'error\[borrow-e0382\]: use of moved value: `go`' <<'E2'
-pub fn keep_the_leave<H: Wait>(end: &mut PutEnd<(Claim, Go)>, rt: &H, claim: Claim, go: Go) -> Go {
+pub fn keep_the_leave<H: Wait>(end: &mut ChannelSender<(Claim, Go)>, rt: &H, claim: Claim, go: Go) -> Go {
     let _ = end.put(rt, (claim, go));
     go
 }
@@ -133,11 +133,11 @@ pub fn two_boards<'f, R: Runner, L: Ledger>(
     history: History,
 ) {
     let (one, other) = blanks;
-    let _first = Board::<R, L, Unwatched>::new(
-        alloc, fleet, play, runner, 1, start, vars, one, Unwatched, history,
+    let _first = Board::<R, L, NoObserver>::new(
+        alloc, fleet, play, runner, 1, start, vars, one, NoObserver, history,
     );
-    let _second = Board::<R, L, Unwatched>::new(
-        alloc, fleet, play, runner, 1, start, vars, other, Unwatched, history,
+    let _second = Board::<R, L, NoObserver>::new(
+        alloc, fleet, play, runner, 1, start, vars, other, NoObserver, history,
     );
 }
 E2
@@ -152,8 +152,8 @@ pub fn beside_its_board<'f, R: Runner, L: Ledger>(
     blank: Blank,
     history: History,
 ) -> History {
-    let _board = Board::<R, L, Unwatched>::new(
-        alloc, fleet, play, runner, 1, start, vars, blank, Unwatched, history,
+    let _board = Board::<R, L, NoObserver>::new(
+        alloc, fleet, play, runner, 1, start, vars, blank, NoObserver, history,
     );
     history
 }

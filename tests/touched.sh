@@ -78,7 +78,7 @@ if [ -n "$build" ] || [ ! -x "$program" ]; then
 fi
 
 scripts='cli inventories playbooks words check expect lint explain broken memory programs children services stops supervise telling noted rehearsal drawn readme examples deb installed completions house'
-case " $names " in *' roll_core '* | *' ticket_line '*) scripts="$scripts once" ;; esac
+case " $names " in *' roll_core '* | *' ticket_channel '*) scripts="$scripts once" ;; esac
 case " $names " in *' pool_tests '*) scripts="$scripts workers" ;; esac
 sh tests/gate.sh $scripts >"$work/scripts" 2>&1
 counts=$(tail -n 1 "$work/scripts" | sed -n 's/^\([0-9]*\) passed, \([0-9]*\) failed$/\1 \2/p')

@@ -89,7 +89,7 @@ def compare_entries(count):
     for kind in sorted({*kinds, *noted}):
         count.row(kind in noted, f"docs/NOTES.md: the kind {kind} has no row, or no heading to which its row leads")
         count.row(kind in kinds, f"docs/NOTES.md: {kind} is no kind of notes")
-    for path in ("crates/command_line/src/clash.rt", "crates/command_line/specs/Clashes.antt", *tree.found("completions/*")):
+    for path in ("crates/command_line/src/option_conflict.rt", "crates/command_line/specs/Clashes.antt", *tree.found("completions/*")):
         text = tree.read(path)
         count.row(", ".join(kinds) in text or " ".join(kinds) in text, f"{path} has another list of the kinds of notes than the program")
     count.row(len(kinds) > 10 and noted == sorted(noted, key=lambda kind: kinds.index(kind) if kind in kinds else -1), "docs/NOTES.md: the kinds stand in another order than in the program")

@@ -75,11 +75,11 @@ def a_crate_without_contracts_of_which_proved_says_nothing(copy):
 
 
 def a_crate_that_proved_calls_one_without_contracts(copy):
-    copy.change("docs/PROVED.md", "**Without contracts**: ", "**Without contracts**: `planning`, ")
+    copy.change("docs/PROVED.md", "**Without contracts**: ", "**Without contracts**: `plan_command`, ")
 
 
 def a_promise_whose_call_its_crate_keeps(copy):
-    copy.change("crates/outlook/src/lib.rt", "pub use limits::limits_from;\n", "")
+    copy.change("crates/resume_preview/src/lib.rt", "pub use limits::limits_from;\n", "")
 
 
 def a_promise_whose_call_has_no_contract(copy):
@@ -89,7 +89,7 @@ def a_promise_whose_call_has_no_contract(copy):
 
 def a_promise_that_make_does_not_prove(copy):
     lines = copy.read("crates.txt").splitlines(keepends=True)
-    copy.write("crates.txt", "".join(line.replace(" run_laws", "") if line.startswith("outlook: ") else line for line in lines))
+    copy.write("crates.txt", "".join(line.replace(" run_forecast_laws", "") if line.startswith("resume_preview: ") else line for line in lines))
 
 
 def a_script_of_which_proved_says_nothing(copy):
@@ -106,7 +106,7 @@ def row_of_public_name(copy, name):
 
 def a_public_name_in_another_crate(copy):
     row = row_of_public_name(copy, "plan_text")
-    copy.change("docs/DECISIONS.md", row, row.replace("`planning`", "`running`", 1))
+    copy.change("docs/DECISIONS.md", row, row.replace("`plan_command`", "`run_command`", 1))
 
 
 def a_public_name_that_came_where_one_looks_for_it(copy):
@@ -307,7 +307,7 @@ def a_note_explained_otherwise_than_on_its_page(copy):
 
 
 def a_kind_of_notes_that_a_refusal_leaves_out(copy):
-    copy.change("crates/command_line/src/clash.rt", "near-key, ", "")
+    copy.change("crates/command_line/src/option_conflict.rt", "near-key, ", "")
 
 
 def a_kind_of_notes_that_zsh_lacks(copy):

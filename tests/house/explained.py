@@ -10,7 +10,7 @@ import re
 
 import tree
 
-FAULTS, NOTES, KINDS = "docs/FAULTS.md", "docs/NOTES.md", "crates/note_lines/src/rows.rt"
+FAULTS, NOTES, KINDS = "docs/FAULTS.md", "docs/NOTES.md", "crates/lint_rules/src/rows.rt"
 CRATE = "crates/hints"
 ROW = re.compile(r"^\| \[([\w-]+)\]\(#([\w-]+)\) \| ([^|]+) \| (.*) \|$", re.M)
 
@@ -24,7 +24,7 @@ def entries_of(page):
 
 def kinds():
     """The names of the lint rules, as the program has them."""
-    return re.findall(r'Kind::\w+ => (?:warning|info)\(\s*"([\w-]+)"', tree.read("crates/note_lines/src/rows.rt"))
+    return re.findall(r'LintRule::\w+ => (?:warning|info)\(\s*"([\w-]+)"', tree.read("crates/lint_rules/src/rows.rt"))
 
 
 def bodies_of(text):

@@ -6,7 +6,7 @@ use Rattle.std.proofs.lemmas.List.{map-append, take_all, length-map, get_or-map}
 use Rattle.group_tree.specs.declared.ids.GroupId.{GroupId}
 use Rattle.domains.specs.Ids.{group_numbers}
 use Rattle.batch_plan.specs.declared.place.Place.{Place}
-use Rattle.fleet_numbers.specs.NumberLists.{bit}
+use Rattle.fleet_index.specs.NumberLists.{bit}
 use Rattle.batch_plan.specs.CountPlaces.{waits, is_down}
 use Rattle.batch_plan.specs.Nodes.{Node, Subtree, under, own_node, nodes_of, side_by_side, path_of, groups_in, RiseFrom}
 use Rattle.batch_plan.specs.Changes.{begins, recounted, recounted_along}

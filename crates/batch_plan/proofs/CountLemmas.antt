@@ -6,7 +6,7 @@ use Rattle.fleet_states.specs.declared.status.Status.{Status}
 use Rattle.fleet_states.specs.declared.status.Status.TheVariants.{Idle}
 use Rattle.std.proofs.lemmas.List.Sums.{sum_by-cons}
 use Rattle.std.proofs.lemmas.Bool.{and_parts, not-true, both_ways, eq-eqb, ne_eqb, or_parts, cases_eq, cases_Bool, false_from_ne_true}
-use Rattle.fleet_numbers.specs.NumberLists.{has_number}
+use Rattle.fleet_index.specs.NumberLists.{has_number}
 use Rattle.fleet_states.specs.Statuses.{are_distinct, is_waiting, status_at, waiting_count}
 use Rattle.fleet_states.proofs.CountLemmas.{bit, count_by-cons, count_le, count_some}
 use Rattle.batch_plan.specs.Plans.{times_in}

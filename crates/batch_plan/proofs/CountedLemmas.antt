@@ -8,7 +8,7 @@ use Rattle.std.proofs.lemmas.List.Elements.{filter_agree, filter_more}
 use Rattle.std.proofs.lemmas.List.Sums.{length-filter}
 use Rattle.std.proofs.lemmas.List.Sorted.{sum_by-IsPermutation}
 use Rattle.group_tree.specs.declared.ids.HostId.{HostId}
-use Rattle.fleet_numbers.specs.NumberLists.{list_at}
+use Rattle.fleet_index.specs.NumberLists.{list_at}
 use Rattle.domains.specs.Ids.{host_numbers}
 use Rattle.domains.specs.FleetViews.{FleetView, IsSound}
 use Rattle.batch_plan.specs.declared.place.Place.{Place}

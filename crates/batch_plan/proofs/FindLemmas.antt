@@ -10,7 +10,7 @@ use Rattle.std.proofs.lemmas.Bool.Decides.{nat_tests}
 use Rattle.std.proofs.lemmas.List.{get_or-map, length-map}
 use Rattle.std.proofs.lemmas.List.Folds.{list_any-append}
 use Rattle.std.proofs.lemmas.List.Sorted.{IsNonDecreasingBy-from_default}
-use Rattle.fleet_numbers.specs.NumberLists.{has_number}
+use Rattle.fleet_index.specs.NumberLists.{has_number}
 use Rattle.batch_plan.specs.Nodes.{Node, Subtree, under, own_node, nodes_of, side_by_side, groups_in, RiseFrom}
 use Rattle.batch_plan.specs.Finds.{tops_of, IsAt, IsGap, counts_as, IsCountedIn}
 use Rattle.batch_plan.proofs.RiseLemmas.{rise_right, rise_sorted, has_below, has_past}

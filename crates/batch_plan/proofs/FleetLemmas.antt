@@ -5,8 +5,8 @@ use Rattle.std.specs.List.{list_all}
 use Rattle.std.proofs.lemmas.List.{get_or_past, get_or_default, get_or-set_same, get_or-set_other, get_or-replicate, length-replicate, length-set}
 use Rattle.std.proofs.lemmas.List.Sums.{count_by-le-length}
 use Rattle.std.proofs.lemmas.Bool.{and_from, lt-ltb, le-ltb, not_from_false, cases_lt}
-use Rattle.fleet_numbers.specs.NumberLists.{bit, has_number, list_at, IsRising}
-use Rattle.fleet_numbers.specs.Chains.{is_limited}
+use Rattle.fleet_index.specs.NumberLists.{bit, has_number, list_at, IsRising}
+use Rattle.fleet_index.specs.Chains.{is_limited}
 use Rattle.domains.specs.FleetViews.{FleetView, IsSound, IsInSubtree}
 use Rattle.std.proofs.lemmas.Simd.{map-map}
 use Rattle.batch_plan.specs.declared.place.Place.{Place}
@@ -18,7 +18,7 @@ use Rattle.batch_plan.specs.Counts.{Counted, place_at, waiting_in, down_in, limi
 use Rattle.batch_plan.proofs.WhereLemmas.{rise_where, length-where, map_where, all_where}
 use Rattle.batch_plan.proofs.PathLemmas.{IsBelow, on_chain}
 use Rattle.batch_plan.proofs.FoundLemmas.{groups_are}
-use Rattle.fleet_numbers.proofs.TestCounts.{count_none, count_at}
+use Rattle.fleet_index.proofs.TestCounts.{count_none, count_at}
 use Rattle.batch_plan.proofs.RisingCounts.{count_change}
 
 pub nodes_rise : (counted : Counted) → RiseFrom 0 (groups_in (nodes_at counted))

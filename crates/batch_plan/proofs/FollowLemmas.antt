@@ -4,7 +4,7 @@ use Rattle.std.proofs.lemmas.Bool.{cases_eq, cases_lt, ne_eqb}
 use Rattle.std.proofs.lemmas.List.{ext_get_or, length-set, map-set}
 use Rattle.batch_plan.specs.declared.place.Place.{Place}
 use Rattle.batch_plan.specs.Counts.{Counted, moved}
-use Rattle.fleet_numbers.specs.NumberLists.{has_number}
+use Rattle.fleet_index.specs.NumberLists.{has_number}
 use Rattle.fleet_states.specs.declared.status.Status.{Status}
 use Rattle.fleet_states.specs.declared.status.Status.TheVariants.{Idle}
 use Rattle.fleet_states.specs.Statuses.{status_at}

@@ -4,9 +4,9 @@ use Rattle.std.proofs.Common.{get_or, sym, ap, ◌∙◌, refl, arith, inl, inr,
 use Rattle.std.specs.List.{list_any}
 use Rattle.std.proofs.lemmas.List.{get_or_past}
 use Rattle.std.proofs.lemmas.Bool.{and_from, and_parts, or_cases, eqb-true, lt-ltb, cases_lt, both_ways}
-use Rattle.fleet_numbers.specs.NumberLists.{has_number}
-use Rattle.fleet_numbers.specs.Chains.{is_limited}
-use Rattle.fleet_numbers.proofs.RisingLemmas.{has_number-numbers_where}
+use Rattle.fleet_index.specs.NumberLists.{has_number}
+use Rattle.fleet_index.specs.Chains.{is_limited}
+use Rattle.fleet_index.proofs.RisingLemmas.{has_number-numbers_where}
 use Rattle.domains.specs.FleetViews.{FleetView, IsSound}
 use Rattle.batch_plan.specs.Nodes.{Node, Subtree, groups_in}
 use Rattle.batch_plan.specs.Finds.{counts_as, IsCountedIn}

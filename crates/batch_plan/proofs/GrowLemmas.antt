@@ -3,8 +3,8 @@ use Rattle.std.proofs.Common.{◌≡◌, ℕ, ◌+◌, ◌≤◌, ◌<◌, Bool,
 use Rattle.std.proofs.Common.{◌∙◌, refl, arith, add-one, length-append}
 use Rattle.std.proofs.lemmas.List.{map-append, append-nil, length-replicate}
 use Rattle.std.proofs.Math.Seq.{take-append_seam}
-use Rattle.fleet_numbers.specs.NumberLists.{bit, numbers_where}
-use Rattle.fleet_numbers.specs.Chains.{is_limited}
+use Rattle.fleet_index.specs.NumberLists.{bit, numbers_where}
+use Rattle.fleet_index.specs.Chains.{is_limited}
 use Rattle.domains.specs.FleetViews.{FleetView, IsSound}
 use Rattle.batch_plan.specs.declared.place.Place.{Place}
 use Rattle.batch_plan.specs.declared.place.Place.TheVariants.{Up}

@@ -5,16 +5,16 @@ use Rattle.std.specs.List.{Any, list_any}
 use Rattle.std.proofs.lemmas.Bool.{and_from, and_parts, both_ways, cases_eq, cases_lt, eq-eqb, eqb-true, le-ltb, lt-ltb, false_from_ne_true}
 use Rattle.std.proofs.lemmas.List.{get_or_default, get_or_past, length-map}
 use Rattle.std.proofs.lemmas.List.Folds.{Any-from_list_any, list_any_at}
-use Rattle.fleet_numbers.specs.Chains.{is_limited}
-use Rattle.fleet_numbers.specs.NumberLists.{has_number, list_at}
-use Rattle.fleet_numbers.proofs.RisingLemmas.{has_number-numbers_where}
+use Rattle.fleet_index.specs.Chains.{is_limited}
+use Rattle.fleet_index.specs.NumberLists.{has_number, list_at}
+use Rattle.fleet_index.proofs.RisingLemmas.{has_number-numbers_where}
 use Rattle.batch_plan.proofs.WhereLemmas.{both}
 use Rattle.domains.specs.FleetViews.{FleetView, IsSound}
 use Rattle.domains.specs.Starts.{exceeds}
 use Rattle.fleet_states.specs.declared.status.Status.{Status}
 use Rattle.fleet_states.specs.declared.status.Status.TheVariants.{Idle, Held}
 use Rattle.fleet_states.specs.Statuses.{are_distinct, down_count, is_running, is_waiting, status_at, waiting_count}
-use Rattle.fleet_states.specs.Groups.{FleetGroup, group_at, groups_of, is_full_for, is_stuck, no_group, room}
+use Rattle.fleet_states.specs.Groups.{FleetGroup, group_at, groups_of, is_full_for, lacks_room, no_group, room}
 use Rattle.fleet_states.proofs.CountLemmas.{count_none_in}
 use Rattle.fleet_states.proofs.GroupLemmas.{get_or-groups_of, group_of, groups_of_hosts, length-groups_of}
 use Rattle.fleet_states.proofs.StatusLemmas.{length-changed, nobody_at, waiting_within}
@@ -23,7 +23,7 @@ use Rattle.batch_plan.specs.declared.answers.Answer.{Answer}
 use Rattle.batch_plan.specs.declared.answers.Answer.TheVariants.{Planned, Blocked}
 use Rattle.batch_plan.specs.Answers.{IsBest}
 use Rattle.batch_plan.specs.Beginnings.{IsReady}
-use Rattle.batch_plan.specs.Holding.{HoldingUnblocks, IsPlanned, held_hosts, is_held_back, set_aside}
+use Rattle.batch_plan.specs.Holding.{HoldingUnblocks, IsPlanned, held_hosts, waits_without_room, set_aside}
 use Rattle.batch_plan.specs.Inside.{is_full}
 use Rattle.batch_plan.specs.Needs.{is_blocked, need_at, need_of}
 use Rattle.batch_plan.proofs.LeastLemmas.{need_of_group}
@@ -39,7 +39,7 @@ number_settles p xs n here passes = by_place (Any-from_list_any (nat_eq n) xs he
 
 -- a member of a group without room is stuck
 stuck_by : (fleet : FleetView) (statuses : List Status) (host group : ℕ) → group < length fleet.groups → has_number host (list_at fleet.members group) ≡ true
-    → is_no_room (room statuses (group_of fleet group)) ≡ true → is_stuck (groups_of fleet) statuses host ≡ true
+    → is_no_room (room statuses (group_of fleet group)) ≡ true → lacks_room (groups_of fleet) statuses host ≡ true
 stuck_by fleet statuses host group within here full =
     list_any_at (is_full_for statuses (host ∷ [])) (groups_of fleet) group no_group (omega (arith, within, length-groups_of fleet))
     (ap (is_full_for statuses (host ∷ [])) (get_or-groups_of fleet group no_group within) ∙ full_for_member statuses host (group_of fleet group) here full)
@@ -86,10 +86,10 @@ module _ (statuses : List Status) where
         let inside : group < length (groups_of fleet) = omega (arith, within, length-groups_of fleet) in
         subst (λ (g : FleetGroup). are_distinct g.members ≡ true) (get_or-groups_of fleet group no_group within) (groups_of_hosts fleet sound group no_group inside).distinct
 
-    from_chain : list_any (λ group. is_full (need_at needs group)) chain ≡ true → is_stuck (groups_of fleet) statuses host ≡ true
+    from_chain : list_any (λ group. is_full (need_at needs group)) chain ≡ true → lacks_room (groups_of fleet) statuses host ≡ true
     from_chain e = by_place (Any-from_list_any (λ group. is_full (need_at needs group)) chain e)
       where
-        by_place : Any (λ group. is_full (need_at needs group) ≡ true) chain → is_stuck (groups_of fleet) statuses host ≡ true
+        by_place : Any (λ group. is_full (need_at needs group) ≡ true) chain → lacks_room (groups_of fleet) statuses host ≡ true
         by_place found =
             let group : ℕ = found.1 in
             let within = full_within group found.4 in
@@ -98,7 +98,7 @@ module _ (statuses : List Status) where
             let full = sym (need_here group within) ∙ found.4 in
             stuck_by fleet statuses host group within parts.1 full
 
-    from_groups : is_stuck (groups_of fleet) statuses host ≡ true → list_any (λ group. is_full (need_at needs group)) chain ≡ true
+    from_groups : lacks_room (groups_of fleet) statuses host ≡ true → list_any (λ group. is_full (need_at needs group)) chain ≡ true
     from_groups e = by_place (Any-from_list_any (is_full_for statuses (host ∷ [])) (groups_of fleet) e)
       where
         by_place : Any (λ group. is_full_for statuses (host ∷ []) group ≡ true) (groups_of fleet) → list_any (λ group. is_full (need_at needs group)) chain ≡ true
@@ -112,8 +112,8 @@ module _ (statuses : List Status) where
             number_settles (λ group. is_full (need_at needs group)) chain group chained (need_here group within ∙ parts.1)
 
     -- a host's chain has a full group just where a group without room holds it
-    pub chain_tells : list_any (λ group. is_full (need_at needs group)) chain ≡ is_stuck (groups_of fleet) statuses host
-    chain_tells = both (list_any (λ group. is_full (need_at needs group)) chain) (is_stuck (groups_of fleet) statuses host) from_chain from_groups
+    pub chain_tells : list_any (λ group. is_full (need_at needs group)) chain ≡ lacks_room (groups_of fleet) statuses host
+    chain_tells = both (list_any (λ group. is_full (need_at needs group)) chain) (lacks_room (groups_of fleet) statuses host) from_chain from_groups
 
 -- once those that are held back are set aside
 module _ (fleet : FleetView) (statuses : List Status) (all : length statuses ≡ length fleet.hosts) where
@@ -123,13 +123,13 @@ module _ (fleet : FleetView) (statuses : List Status) (all : length statuses ≡
   abbrev held : ℕ → Bool
   held host = has_number host (held_hosts fleet statuses)
 
-  is_held : (host : ℕ) → held host ≡ (nat_lt host (length fleet.hosts) && is_held_back (groups_of fleet) statuses host)
-  is_held host = has_number-numbers_where (is_held_back (groups_of fleet) statuses) (length fleet.hosts) host
+  is_held : (host : ℕ) → held host ≡ (nat_lt host (length fleet.hosts) && waits_without_room (groups_of fleet) statuses host)
+  is_held host = has_number-numbers_where (waits_without_room (groups_of fleet) statuses) (length fleet.hosts) host
 
   held_waits : (host : ℕ) → held host ≡ true → is_waiting (status_at statuses host) ≡ true
   held_waits host e =
-      let inner = and_parts (nat_lt host (length fleet.hosts)) (is_held_back (groups_of fleet) statuses host) (sym (is_held host) ∙ e) in
-      (and_parts (is_waiting (status_at statuses host)) (is_stuck (groups_of fleet) statuses host) inner.1).0
+      let inner = and_parts (nat_lt host (length fleet.hosts)) (waits_without_room (groups_of fleet) statuses host) (sym (is_held host) ∙ e) in
+      (and_parts (is_waiting (status_at statuses host)) (lacks_room (groups_of fleet) statuses host) inner.1).0
 
   status_aside : (host : ℕ) → status_at aside host ≡ cond (held host) Held (status_at statuses host)
   status_aside = status_at-moved Held refl (held_hosts fleet statuses) statuses held_waits
@@ -150,8 +150,8 @@ module _ (fleet : FleetView) (statuses : List Status) (all : length statuses ≡
       by_case host here false is =
           false_from_ne_true (is_waiting (status_at statuses host)) (λ waits.
           let low = lt-ltb host (length fleet.hosts) (subst (λ (n : ℕ). host < n) all (waiting_within statuses host waits)) in
-          let held_back = and_from (is_waiting (status_at statuses host)) (is_stuck (groups_of fleet) statuses host) waits (stuck_by fleet statuses host group within here full) in
-          both_ways (held host) is (is_held host ∙ and_from (nat_lt host (length fleet.hosts)) (is_held_back (groups_of fleet) statuses host) low held_back))
+          let held_back = and_from (is_waiting (status_at statuses host)) (lacks_room (groups_of fleet) statuses host) waits (stuck_by fleet statuses host group within here full) in
+          both_ways (held host) is (is_held host ∙ and_from (nat_lt host (length fleet.hosts)) (waits_without_room (groups_of fleet) statuses host) low held_back))
 
   free : (group : ℕ) → group < length (groups_of fleet) → is_blocked (need_of aside (group_at (groups_of fleet) group)) ≡ false
   free group inside =

@@ -5,7 +5,7 @@ use Rattle.std.specs.List.{list_all}
 use Rattle.std.proofs.lemmas.Bool.{eq-eqb, and_parts, not-true, ltb-true, ltb-false}
 use Rattle.std.proofs.lemmas.List.Folds.{list_all-append}
 use Rattle.batch_plan.specs.declared.place.Place.{Place}
-use Rattle.fleet_numbers.specs.NumberLists.{bit}
+use Rattle.fleet_index.specs.NumberLists.{bit}
 use Rattle.batch_plan.specs.CountPlaces.{waits, is_down}
 use Rattle.batch_plan.specs.Nodes.{Node, Subtree, under, own_node, nodes_of, side_by_side, path_of}
 use Rattle.batch_plan.specs.Changes.{begins, counts_on}

@@ -5,9 +5,9 @@ use Rattle.std.specs.List.{list_all, range_with_len}
 use Rattle.std.proofs.lemmas.List.{map-append, append-nil}
 use Rattle.std.proofs.lemmas.Bool.{eq-eqb, eqb-true, ne_eqb, and_from, and_parts, and_left, and_right, or_left, or_right, or_cases, ltb-true, lt-ltb}
 use Rattle.std.proofs.lemmas.Bool.{ltb-false, le-ltb, not-true, not_from_false, cases_lt, cases_eq, false_from_ne_true}
-use Rattle.fleet_numbers.specs.NumberLists.{has_number, numbers_where, list_at, IsRising}
-use Rattle.fleet_numbers.specs.Chains.{is_limited}
-use Rattle.fleet_numbers.proofs.RisingLemmas.{has_number-within, Ascends-rising}
+use Rattle.fleet_index.specs.NumberLists.{has_number, numbers_where, list_at, IsRising}
+use Rattle.fleet_index.specs.Chains.{is_limited}
+use Rattle.fleet_index.proofs.RisingLemmas.{has_number-within, Ascends-rising}
 use Rattle.std.proofs.Math.Bool.{or-false, and-true}
 use Rattle.batch_plan.specs.Nodes.{Node}
 use Rattle.batch_plan.specs.Changes.{begins}

@@ -5,19 +5,19 @@ use Rattle.std.specs.List.{count_by, list_all, range_with_len}
 use Rattle.std.proofs.lemmas.Bool.{and_from, and_parts, both_ways, cases_Bool, cases_eq, cases_lt, eq-eqb, ne_eqb, or_left, or_right}
 use Rattle.std.proofs.lemmas.List.Folds.{list_any_none}
 use Rattle.std.proofs.lemmas.List.Sums.{sum_by-cons}
-use Rattle.fleet_numbers.specs.NumberLists.{has_number, list_at}
-use Rattle.fleet_numbers.proofs.RisingLemmas.{Ascends-numbers_where, has_number-numbers_where, rising_is}
+use Rattle.fleet_index.specs.NumberLists.{has_number, list_at}
+use Rattle.fleet_index.proofs.RisingLemmas.{Ascends-numbers_where, has_number-numbers_where, rising_is}
 use Rattle.domains.specs.FleetViews.{FleetView}
 use Rattle.domains.specs.Starts.{exceeds}
 use Rattle.fleet_states.specs.declared.status.Status.{Status}
 use Rattle.fleet_states.specs.declared.status.Status.TheVariants.{Updated}
 use Rattle.fleet_states.specs.Statuses.{are_distinct, changed, is_waiting, status_at}
-use Rattle.fleet_states.specs.Groups.{FleetGroup, groups_of, is_full_for, is_stuck, members_among, room}
+use Rattle.fleet_states.specs.Groups.{FleetGroup, groups_of, is_full_for, lacks_room, members_among, room}
 use Rattle.fleet_states.proofs.CountLemmas.{bit, count_le}
 use Rattle.fleet_states.proofs.NumberLemmas.{distinct_rising}
 use Rattle.fleet_states.proofs.SafetyLemmas.{exceeds_less}
 use Rattle.batch_plan.specs.declared.answers.Answer.TheVariants.{Planned, Blocked}
-use Rattle.batch_plan.specs.Holding.{held_hosts, is_held_back}
+use Rattle.batch_plan.specs.Holding.{held_hosts, waits_without_room}
 use Rattle.batch_plan.specs.Laws.{AnswersOneLess, FirstMayBeOpened, HeldMayBeSetAside, MayBeOpened, OneBatchLess, PlansHoldNobody, StandsInOne}
 use Rattle.batch_plan.specs.Plans.{IsPlan, times_in}
 use Rattle.batch_plan.proofs.CountLemmas.{count_absent, counted_here, distinct_counted}
@@ -190,23 +190,23 @@ module _ (fleet : FleetView) (statuses : List Status) where
   abbrev held : List ℕ
   held = held_hosts fleet statuses
 
-  parts : (host : ℕ) → has_number host held ≡ true → (is_waiting (status_at statuses host) ≡ true) × (is_stuck (groups_of fleet) statuses host ≡ true)
+  parts : (host : ℕ) → has_number host held ≡ true → (is_waiting (status_at statuses host) ≡ true) × (lacks_room (groups_of fleet) statuses host ≡ true)
   parts host here =
-      let inner = and_parts (nat_lt host (length fleet.hosts)) (is_held_back (groups_of fleet) statuses host)
-      (sym (has_number-numbers_where (is_held_back (groups_of fleet) statuses) (length fleet.hosts) host) ∙ here) in
-      and_parts (is_waiting (status_at statuses host)) (is_stuck (groups_of fleet) statuses host) inner.1
+      let inner = and_parts (nat_lt host (length fleet.hosts)) (waits_without_room (groups_of fleet) statuses host)
+      (sym (has_number-numbers_where (waits_without_room (groups_of fleet) statuses) (length fleet.hosts) host) ∙ here) in
+      and_parts (is_waiting (status_at statuses host)) (lacks_room (groups_of fleet) statuses host) inner.1
 
   held_distinct : are_distinct held ≡ true
   held_distinct =
       distinct_rising (length fleet.hosts) held (rising_is (λ n. has_number n held) (length fleet.hosts) held
-      (Ascends-numbers_where (is_held_back (groups_of fleet) statuses) (length fleet.hosts)) (λ n l. refl))
+      (Ascends-numbers_where (waits_without_room (groups_of fleet) statuses) (length fleet.hosts)) (λ n l. refl))
 
 pub held_may_be_set_aside : HeldMayBeSetAside
 held_may_be_set_aside fleet statuses =
     record {
       ready = and_from (list_all (λ h. is_waiting (status_at statuses h)) held_here) (are_distinct held_here)
           (all_numbers (λ h. is_waiting (status_at statuses h)) held_here (λ h here. (parts fleet statuses h here).0)) (held_distinct fleet statuses);
-      stuck = all_numbers (is_stuck (groups_of fleet) statuses) held_here (λ h here. (parts fleet statuses h here).1);
+      stuck = all_numbers (lacks_room (groups_of fleet) statuses) held_here (λ h here. (parts fleet statuses h here).1);
     }
   where
     held_here : List ℕ
@@ -240,13 +240,13 @@ module _ (groups : List FleetGroup) (statuses : List Status) (cap : Option ℕ) 
       by_case later (inl here) = room_beside batch group here (fits 0 (omega arith))
       by_case later (inr none) = later (omega (arith, some, times_first host batch rest, count_absent host batch none))
 
-  not_held : is_held_back groups statuses host ≡ false
+  not_held : waits_without_room groups statuses host ≡ false
   not_held = by_case (cases_Bool (is_waiting (status_at statuses host)))
     where
       stuck : Bool
-      stuck = is_stuck groups statuses host
+      stuck = lacks_room groups statuses host
 
-      by_case : (is_waiting (status_at statuses host) ≡ true) ⊎ (is_waiting (status_at statuses host) ≡ false) → is_held_back groups statuses host ≡ false
+      by_case : (is_waiting (status_at statuses host) ≡ true) ⊎ (is_waiting (status_at statuses host) ≡ false) → waits_without_room groups statuses host ≡ false
       by_case (inl waits) =
           let one : bit (is_waiting (status_at statuses host)) ≡ 1 = ap bit waits in
           let some : 0 < times_in batches host = omega (arith, one, plan.once host) in
@@ -256,4 +256,4 @@ module _ (groups : List FleetGroup) (statuses : List Status) (cap : Option ℕ) 
 
 pub plans_hold_nobody : PlansHoldNobody
 plans_hold_nobody fleet statuses cap batches plan =
-    none_where (is_held_back (groups_of fleet) statuses) (not_held (groups_of fleet) statuses cap batches plan) (range_with_len 0 (length fleet.hosts))
+    none_where (waits_without_room (groups_of fleet) statuses) (not_held (groups_of fleet) statuses cap batches plan) (range_with_len 0 (length fleet.hosts))

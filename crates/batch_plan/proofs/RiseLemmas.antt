@@ -1,7 +1,7 @@
 -- Numbers that rise from a first one on.
 use Rattle.std.proofs.Common.{◌≡◌, ℕ, zero, suc, ◌+◌, ◌≤◌, ◌<◌, false, ◌||◌, List, [], ◌∷◌, ◌++◌, length, get_or, ap, ◌∙◌, refl, arith}
 use Rattle.std.proofs.lemmas.Bool.{ne_eqb}
-use Rattle.fleet_numbers.specs.NumberLists.{has_number}
+use Rattle.fleet_index.specs.NumberLists.{has_number}
 use Rattle.batch_plan.specs.Nodes.{RiseFrom}
 
 pub rise_lower : (low lower : ℕ) (xs : List ℕ) → lower ≤ low → RiseFrom low xs → RiseFrom lower xs

@@ -1,8 +1,8 @@
 -- How many hosts of a rising list pass a test, as the test changes at one of them.
 use Rattle.std.proofs.Common.{◌≡◌, ℕ, ◌+◌, Bool, true, not, ◌&&◌, List, [], ◌∷◌, ap, ◌∙◌, refl, arith}
 use Rattle.std.specs.List.{count_by}
-use Rattle.fleet_numbers.specs.NumberLists.{are_distinct}
-use Rattle.fleet_numbers.proofs.TestCounts as counts
+use Rattle.fleet_index.specs.NumberLists.{are_distinct}
+use Rattle.fleet_index.proofs.TestCounts as counts
 use Rattle.batch_plan.specs.Nodes.{RiseFrom}
 use Rattle.batch_plan.proofs.RiseLemmas.{has_below}
 

@@ -1,6 +1,6 @@
 -- What a fleet's group needs, by its lists.
 use Rattle.std.proofs.Common.{◌≡◌, ℕ, ◌-◌, ◌<◌, None, List, length, get_or, option_map, ap}
-use Rattle.fleet_numbers.specs.NumberLists.{list_at}
+use Rattle.fleet_index.specs.NumberLists.{list_at}
 use Rattle.domains.specs.FleetViews.{FleetView}
 use Rattle.fleet_states.specs.declared.status.Status.{Status}
 use Rattle.fleet_states.specs.Statuses.{down_count}

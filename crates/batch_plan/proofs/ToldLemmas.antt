@@ -5,9 +5,9 @@ use Rattle.std.specs.List.{range_with_len}
 use Rattle.std.proofs.lemmas.Bool.{cases_eq, eq-eqb, lt-ltb, ne_eqb}
 use Rattle.std.proofs.lemmas.List.{ext_get_or, flat_map_more, take_more}
 use Rattle.std.proofs.lemmas.List.FromFn.{get_or-map-range_with_len, length-map-range_with_len}
-use Rattle.fleet_numbers.specs.NumberLists.{has_number}
-use Rattle.fleet_numbers.specs.Chains.{is_limited}
-use Rattle.fleet_numbers.proofs.RisingLemmas.{has_number-numbers_where}
+use Rattle.fleet_index.specs.NumberLists.{has_number}
+use Rattle.fleet_index.specs.Chains.{is_limited}
+use Rattle.fleet_index.proofs.RisingLemmas.{has_number-numbers_where}
 use Rattle.batch_plan.specs.Nodes.{Node, Subtree, nodes_of, own_node, side_by_side, under}
 use Rattle.batch_plan.specs.Counts.{Counted, down_in, limited_groups, node_at, nodes_at, waiting_in}
 use Rattle.batch_plan.specs.declared.needs.Need.{Need}

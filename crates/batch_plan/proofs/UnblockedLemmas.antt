@@ -4,15 +4,15 @@ use Rattle.std.specs.List.{Any, range_with_len}
 use Rattle.std.proofs.lemmas.Bool.{and_from, both_ways, cases_Bool, eqb-true, lt-ltb, false_from_ne_true}
 use Rattle.std.proofs.lemmas.List.{get_or_default, length-map}
 use Rattle.std.proofs.lemmas.List.Folds.{Any-from_list_any}
-use Rattle.fleet_numbers.specs.NumberLists.{has_number}
+use Rattle.fleet_index.specs.NumberLists.{has_number}
 use Rattle.domains.specs.FleetViews.{FleetView, IsSound}
 use Rattle.fleet_states.specs.declared.status.Status.{Status}
 use Rattle.fleet_states.specs.Statuses.{is_waiting, status_at, waiting_count}
-use Rattle.fleet_states.specs.Groups.{FleetGroup, group_at, groups_of, is_full_for, is_stuck, no_group, room}
+use Rattle.fleet_states.specs.Groups.{FleetGroup, group_at, groups_of, is_full_for, lacks_room, no_group, room}
 use Rattle.fleet_states.proofs.CountLemmas.{count_some}
 use Rattle.fleet_states.proofs.GroupLemmas.{groups_of_hosts}
 use Rattle.batch_plan.specs.declared.needs.Need.{Need}
-use Rattle.batch_plan.specs.Holding.{held_hosts, is_held_back}
+use Rattle.batch_plan.specs.Holding.{held_hosts, waits_without_room}
 use Rattle.batch_plan.specs.Needs.{is_blocked, need_at, need_of}
 use Rattle.batch_plan.proofs.LeastLemmas.{need_of_group}
 use Rattle.batch_plan.proofs.StuckLemmas.{is_no_room, member_where_full}
@@ -40,9 +40,9 @@ member_blocks statuses group host here waits full = by_room (room statuses group
 
 module _ (fleet : FleetView) (sound : IsSound fleet) (statuses : List Status)
     (free : (group : ℕ) → group < length (groups_of fleet) → is_blocked (need_of statuses (group_at (groups_of fleet) group)) ≡ false) where
-  not_stuck : (host : ℕ) → is_waiting (status_at statuses host) ≡ true → is_stuck (groups_of fleet) statuses host ≡ false
+  not_stuck : (host : ℕ) → is_waiting (status_at statuses host) ≡ true → lacks_room (groups_of fleet) statuses host ≡ false
   not_stuck host waits =
-      false_from_ne_true (is_stuck (groups_of fleet) statuses host) (λ e. by_place (Any-from_list_any (is_full_for statuses (host ∷ [])) (groups_of fleet) e))
+      false_from_ne_true (lacks_room (groups_of fleet) statuses host) (λ e. by_place (Any-from_list_any (is_full_for statuses (host ∷ [])) (groups_of fleet) e))
     where
       by_place : Any (λ group. is_full_for statuses (host ∷ []) group ≡ true) (groups_of fleet) → ⊥
       by_place found =
@@ -53,11 +53,11 @@ module _ (fleet : FleetView) (sound : IsSound fleet) (statuses : List Status)
           both_ways (is_blocked (need_of statuses here)) (free place found.2) (member_blocks statuses here host parts.0 waits parts.1)
 
   pub nobody_held : held_hosts fleet statuses ≡ []
-  nobody_held = none_where (is_held_back (groups_of fleet) statuses) (λ host. by_case host (cases_Bool (is_waiting (status_at statuses host)))) (range_with_len 0 (length fleet.hosts))
+  nobody_held = none_where (waits_without_room (groups_of fleet) statuses) (λ host. by_case host (cases_Bool (is_waiting (status_at statuses host)))) (range_with_len 0 (length fleet.hosts))
     where
-      by_case : (host : ℕ) → (is_waiting (status_at statuses host) ≡ true) ⊎ (is_waiting (status_at statuses host) ≡ false) → is_held_back (groups_of fleet) statuses host ≡ false
-      by_case host (inl waits) = ap (λ b. b && is_stuck (groups_of fleet) statuses host) waits ∙ not_stuck host waits
-      by_case host (inr none) = ap (λ b. b && is_stuck (groups_of fleet) statuses host) none
+      by_case : (host : ℕ) → (is_waiting (status_at statuses host) ≡ true) ⊎ (is_waiting (status_at statuses host) ≡ false) → waits_without_room (groups_of fleet) statuses host ≡ false
+      by_case host (inl waits) = ap (λ b. b && lacks_room (groups_of fleet) statuses host) waits ∙ not_stuck host waits
+      by_case host (inr none) = ap (λ b. b && lacks_room (groups_of fleet) statuses host) none
 
 -- the same by what the groups need
 pub nobody_held_by : (fleet : FleetView) (statuses : List Status) → IsSound fleet → (needs : List (Option Need)) → needs ≡ map (need_of statuses) (groups_of fleet)

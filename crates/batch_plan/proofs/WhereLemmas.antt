@@ -5,8 +5,8 @@ use Rattle.std.specs.List.{list_all, range_with_len}
 use Rattle.std.proofs.lemmas.List.{map-append, append-nil}
 use Rattle.std.proofs.lemmas.List.Folds.{list_all-append}
 use Rattle.std.proofs.lemmas.Bool.{eq-eqb, and_from, and_parts, cases_eq}
-use Rattle.fleet_numbers.specs.NumberLists.{numbers_where}
-use Rattle.fleet_numbers.proofs.RisingLemmas.{Ascends, Ascends-numbers_where, numbers_where_more}
+use Rattle.fleet_index.specs.NumberLists.{numbers_where}
+use Rattle.fleet_index.proofs.RisingLemmas.{Ascends, Ascends-numbers_where, numbers_where_more}
 use Rattle.batch_plan.specs.Nodes.{RiseFrom}
 use Rattle.batch_plan.specs.Changes.{begins}
 

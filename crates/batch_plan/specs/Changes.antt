@@ -1,7 +1,7 @@
 -- What one host's change of place does to the counts.
 use Rattle.std.specs.Prelude.{ℕ, ◌+◌, ◌-◌, Bool, true, false, ◌&&◌, ◌||◌, not, nat_eq, nat_lt, cond, List, [], ◌∷◌}
 use Rattle.batch_plan.specs.declared.place.Place.{Place}
-use Rattle.fleet_numbers.specs.NumberLists.{bit}
+use Rattle.fleet_index.specs.NumberLists.{bit}
 use Rattle.batch_plan.specs.CountPlaces.{waits, is_down}
 use Rattle.batch_plan.specs.Nodes.{Node, path_of}
 

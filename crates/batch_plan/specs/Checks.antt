@@ -1,7 +1,7 @@
 -- Tests of a plan that take no memory.
 use Rattle.std.specs.Prelude.{◌≡◌, ℕ, ◌<◌, ◌≤◌, Bool, ◌&&◌, not, nat_lt, cond, None, Option, Some, List, length, count_by, slice_index}
 use Rattle.std.specs.List.{list_all}
-use Rattle.fleet_numbers.specs.NumberLists.{has_number, list_at}
+use Rattle.fleet_index.specs.NumberLists.{has_number, list_at}
 use Rattle.domains.specs.FleetViews.{FleetView}
 use Rattle.domains.specs.Starts.{exceeds}
 use Rattle.fleet_states.specs.declared.status.Status.{Status}

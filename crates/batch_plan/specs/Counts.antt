@@ -1,8 +1,8 @@
 -- The counts that belong to a fleet and to its hosts' places.
 use Rattle.std.specs.Prelude.{◌≡◌, ℕ, ◌+◌, ◌-◌, Bool, false, ◌&&◌, cond, nat_lt, not, slice_set, Option, Some, None, List, map, length, slice_index_or, count_by}
 use Rattle.std.specs.List.{list_all, range_with_len}
-use Rattle.fleet_numbers.specs.NumberLists.{bit, has_number, list_at, numbers_where}
-use Rattle.fleet_numbers.specs.Chains.{is_limited}
+use Rattle.fleet_index.specs.NumberLists.{bit, has_number, list_at, numbers_where}
+use Rattle.fleet_index.specs.Chains.{is_limited}
 use Rattle.domains.specs.FleetViews.{FleetView, IsSound}
 use Rattle.batch_plan.specs.declared.place.Place.{Place}
 use Rattle.batch_plan.specs.declared.place.Place.TheVariants.{Up}

@@ -1,23 +1,23 @@
 -- Hosts that are set aside, since a group of theirs has no room.
 use Rattle.std.specs.Prelude.{ℕ, Bool, ◌&&◌, Option, List, length}
-use Rattle.fleet_numbers.specs.NumberLists.{numbers_where}
+use Rattle.fleet_index.specs.NumberLists.{numbers_where}
 use Rattle.domains.specs.FleetViews.{FleetView}
 use Rattle.fleet_states.specs.declared.status.Status.{Status}
 use Rattle.fleet_states.specs.declared.status.Status.TheVariants.{Held}
 use Rattle.fleet_states.specs.Statuses.{changed, is_waiting, status_at}
-use Rattle.fleet_states.specs.Groups.{FleetGroup, groups_of, is_stuck}
+use Rattle.fleet_states.specs.Groups.{FleetGroup, groups_of, lacks_room}
 use Rattle.batch_plan.specs.declared.answers.Answer.{Answer}
 use Rattle.batch_plan.specs.declared.answers.Answer.TheVariants.{Planned, Blocked}
 use Rattle.batch_plan.specs.Answers.{IsBest}
 use Rattle.batch_plan.specs.Beginnings.{IsReady}
 
 -- the host waits, and a group that holds it has no room for it
-abbrev pub is_held_back : List FleetGroup → List Status → ℕ → Bool
-is_held_back groups statuses host = is_waiting (status_at statuses host) && is_stuck groups statuses host
+abbrev pub waits_without_room : List FleetGroup → List Status → ℕ → Bool
+waits_without_room groups statuses host = is_waiting (status_at statuses host) && lacks_room groups statuses host
 
 -- the hosts that are held back, by name
 abbrev pub held_hosts : FleetView → List Status → List ℕ
-held_hosts fleet statuses = numbers_where (is_held_back (groups_of fleet) statuses) (length fleet.hosts)
+held_hosts fleet statuses = numbers_where (waits_without_room (groups_of fleet) statuses) (length fleet.hosts)
 
 -- the statuses once these hosts are set aside
 abbrev pub set_aside : List ℕ → List Status → List Status

@@ -1,12 +1,12 @@
 -- What holds of every plan.
 use Rattle.std.specs.Prelude.{◌≡◌, ℕ, ◌≤◌, ◌<◌, true, false, Option, List, [], ◌∷◌, length, ◌⊎◌, IfSome}
 use Rattle.std.specs.List.{list_all}
-use Rattle.fleet_numbers.specs.NumberLists.{has_number, list_at}
+use Rattle.fleet_index.specs.NumberLists.{has_number, list_at}
 use Rattle.domains.specs.Starts.{exceeds}
 use Rattle.fleet_states.specs.declared.status.Status.{Status}
 use Rattle.fleet_states.specs.declared.status.Status.TheVariants.{Updated}
 use Rattle.fleet_states.specs.Statuses.{are_ready, changed}
-use Rattle.fleet_states.specs.Groups.{FleetGroup, Fits, group_at, groups_of, is_stuck}
+use Rattle.fleet_states.specs.Groups.{FleetGroup, Fits, group_at, groups_of, lacks_room}
 use Rattle.batch_plan.specs.Counts.{Counted}
 use Rattle.batch_plan.specs.declared.answers.Bound.{Bound}
 use Rattle.batch_plan.specs.Needs.{is_blocked, need_of, needs_of}
@@ -59,7 +59,7 @@ StandsInOne =
 -- these hosts wait, each once, and of each a group without room holds it
 pub record MayBeSetAside (groups : List FleetGroup) (statuses : List Status) (hosts : List ℕ) : Type 0 where
   pub ready : are_ready statuses hosts ≡ true
-  pub stuck : list_all (is_stuck groups statuses) hosts ≡ true
+  pub stuck : list_all (lacks_room groups statuses) hosts ≡ true
 
 -- the hosts that are held back may be set aside
 abbrev pub HeldMayBeSetAside : Type 0

@@ -1,6 +1,6 @@
 -- What a host's status counts as.
 use Rattle.std.specs.Prelude.{◌≡◌, ℕ, false, List, [], ◌∷◌, map, length}
-use Rattle.fleet_numbers.specs.NumberLists.{has_number}
+use Rattle.fleet_index.specs.NumberLists.{has_number}
 use Rattle.batch_plan.specs.declared.place.Place.{Place}
 use Rattle.batch_plan.specs.declared.place.Place.TheVariants.{Up, Waits, Down}
 use Rattle.batch_plan.specs.Counts.{Counted, moved}

@@ -1,7 +1,7 @@
 //! Batches of hosts, kept as one list.
 ghost use Rattle.std.specs.Prelude.{◌≡◌, ◌↔◌, ◌-◌, ◌<◌, ◌≤◌, ◌++◌, ◌∷◌, IsTrue, [], length, take, drop, OnOk, OnErr};
-ghost use Rattle.fleet_numbers.specs.NumberLists.{list_at};
-ghost use Rattle.fleet_numbers.specs.Runs.{AreEnds, runs, start_at};
+ghost use Rattle.fleet_index.specs.NumberLists.{list_at};
+ghost use Rattle.fleet_index.specs.Runs.{AreEnds, runs, start_at};
 ghost use Rattle.domains.specs.Ids.{host_numbers};
 
 use group_tree::HostId;
@@ -33,7 +33,7 @@ pub struct Batches {
 
 impl Model for Batches {
     ghost use Rattle.std.specs.Prelude.{ℕ, List};
-    ghost use Rattle.fleet_numbers.specs.Runs.{runs, AreEnds};
+    ghost use Rattle.fleet_index.specs.Runs.{runs, AreEnds};
     ghost use Rattle.domains.specs.Ids.{host_numbers};
 
     ghost Value = { List (List ℕ) };

@@ -59,7 +59,7 @@ fn need_of<A: Allocator>(fleet: &Fleet, tree: &DomTree<A>) -> Option<Need>
 }
 
 /// Tells what the group needs, apart from those below it.
-fn tell_own<A: Allocator>(needs: &mut [Option<Need>], fleet: &Fleet, tree: &DomTree<A>)
+fn record_own<A: Allocator>(needs: &mut [Option<Need>], fleet: &Fleet, tree: &DomTree<A>)
     requires { length needs.old ≡ length fleet.now.groups }
     ensures len { length needs.new ≡ length needs.old }
     ensures told { (group : ℕ) → group < length needs.old
@@ -72,15 +72,15 @@ fn tell_own<A: Allocator>(needs: &mut [Option<Need>], fleet: &Fleet, tree: &DomT
 }
 
 /// Tells what each of these groups and of those below them needs.
-fn tell_all<A: Allocator>(needs: &mut [Option<Need>], fleet: &Fleet, trees: &[DomTree<A>])
+fn record_all<A: Allocator>(needs: &mut [Option<Need>], fleet: &Fleet, trees: &[DomTree<A>])
     requires { length needs.old ≡ length fleet.now.groups }
     ensures len { length needs.new ≡ length needs.old }
     ensures told { (group : ℕ) → group < length needs.old
         → slice_index_or needs.new group None ≡ told_by fleet.now.limits (side_by_side trees.now) group (slice_index_or needs.old group None) }
 {
     for tree in trees {
-        tell_own(needs, fleet, tree);
-        tell_all(needs, fleet, tree.children());
+        record_own(needs, fleet, tree);
+        record_all(needs, fleet, tree.children());
     }
 }
 
@@ -105,7 +105,7 @@ pub(crate) fn list_needs<A: Allocator>(
 {
     let fleet = domains.fleet();
     let mut needs = untold(alloc, fleet.groups())?;
-    tell_all(needs.as_mut_slice(), fleet, domains.tops());
+    record_all(needs.as_mut_slice(), fleet, domains.tops());
     Ok(needs)
 }
 

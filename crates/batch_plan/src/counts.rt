@@ -1,6 +1,6 @@
 //! The counts of a fleet's limited groups, kept as its hosts' places change.
 ghost use Rattle.std.specs.Prelude.{◌≡◌, ℕ, ◌<◌, true, length, replicate, slice_set, IfOk};
-ghost use Rattle.fleet_numbers.specs.Chains.{is_limited};
+ghost use Rattle.fleet_index.specs.Chains.{is_limited};
 ghost use Rattle.batch_plan.specs.Nodes.{side_by_side};
 ghost use Rattle.batch_plan.specs.Counts.{place_at, waiting_in, down_in, nodes_at, HasMoved};
 ghost use Rattle.batch_plan.specs.declared.place.Place.TheVariants.{Up};

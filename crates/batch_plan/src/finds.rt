@@ -1,6 +1,6 @@
 //! Finding a group among trees, by halving.
 ghost use Rattle.std.specs.Prelude.{◌≡◌, ◌<◌, ◌≤◌, MatchOption, MatchResult, IfErr, IfOk, false, map, length};
-ghost use Rattle.fleet_numbers.specs.NumberLists.{has_number};
+ghost use Rattle.fleet_index.specs.NumberLists.{has_number};
 ghost use Rattle.batch_plan.specs.Nodes.{side_by_side, groups_in, RiseFrom};
 ghost use Rattle.batch_plan.specs.Finds.{tops_of, IsAt, IsGap, IsCountedIn};
 

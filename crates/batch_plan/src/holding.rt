@@ -45,11 +45,16 @@ fn has_full(needs: &[Option<Need>], chain: &[GroupId]) -> bool
 }
 
 /// Whether the host waits and a group of its chain has no room.
-fn is_held_back(fleet: &Fleet, statuses: &[Status], needs: &[Option<Need>], host: HostId) -> bool
+fn waits_without_room(
+    fleet: &Fleet,
+    statuses: &[Status],
+    needs: &[Option<Need>],
+    host: HostId,
+) -> bool
     requires within { host.index < length fleet.now.hosts }
     requires sound { IsSound fleet.now }
     requires needs { needs.now ≡ map (need_of statuses.now) (groups_of fleet.now) }
-    ensures { result ≡ model.is_held_back (groups_of fleet.now) statuses.now host.index }
+    ensures { result ≡ model.waits_without_room (groups_of fleet.now) statuses.now host.index }
 {
     status_of(statuses, host).is_waiting() && has_full(needs, fleet.chain(host))
 }
@@ -78,7 +83,7 @@ fn list_held(
     let mut hosts = Vec::new(alloc);
     for index in 0..fleet.hosts() {
         let host = HostId { index };
-        let held = is_held_back(fleet, statuses, needs, host);
+        let held = waits_without_room(fleet, statuses, needs, host);
         push_where(&mut hosts, host, held)?;
     }
     Ok(hosts)

@@ -1,6 +1,6 @@
 //! Where a host stands for the counts.
 ghost use Rattle.std.specs.Prelude.{◌≡◌};
-ghost use Rattle.fleet_numbers.specs.NumberLists.{bit};
+ghost use Rattle.fleet_index.specs.NumberLists.{bit};
 ghost use Rattle.batch_plan.specs.CountPlaces.{waits, is_down};
 
 /// What a host counts as.

@@ -1,7 +1,7 @@
 //! How many more hosts of each limited group a batch has room for.
 ghost use Rattle.std.specs.Prelude.{◌≡◌, ◌↔◌, ℕ, ◌+◌, ◌<◌, ◌≤◌, ◌^◌, IsTrue, true, cond, length, slice_index};
 ghost use Rattle.std.specs.List.{list_all};
-ghost use Rattle.fleet_numbers.specs.NumberLists.{IsRising, are_below, has_number, list_at};
+ghost use Rattle.fleet_index.specs.NumberLists.{IsRising, are_below, has_number, list_at};
 ghost use Rattle.domains.specs.Ids.{group_numbers, host_numbers};
 ghost use Rattle.domains.specs.FleetViews.{IsSound};
 ghost use Rattle.fleet_states.specs.Groups.{groups_of};
@@ -11,7 +11,7 @@ ghost use Rattle.batch_plan.specs.Checks.{FitInto, KeepPlaces, chain_count, plac
 use crate::batches::Batches;
 use crate::rooms::room;
 use domains::Fleet;
-use fleet_numbers::raise_counts;
+use fleet_index::raise_counts;
 use fleet_states::Status;
 use group_tree::{GroupId, HostId};
 

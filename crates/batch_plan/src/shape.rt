@@ -1,8 +1,8 @@
 //! The tree's shape, grown in preorder.
 ghost use Rattle.std.specs.Prelude.{◌≡◌, ◌+◌, ◌≤◌, ◌<◌, ◌++◌, ◌∷◌, [], length, take, IfOk, OnOk};
 ghost use Rattle.batch_plan.specs.Nodes.{own_node, side_by_side};
-ghost use Rattle.fleet_numbers.specs.Chains.{is_limited};
-ghost use Rattle.fleet_numbers.specs.NumberLists.{bit};
+ghost use Rattle.fleet_index.specs.Chains.{is_limited};
+ghost use Rattle.fleet_index.specs.NumberLists.{bit};
 ghost use Rattle.batch_plan.specs.Shapes.{last_path};
 ghost use Rattle.batch_plan.specs.Counts.{limited_above, bare_before};
 ghost use Rattle.domains.specs.FleetViews.{IsSound};

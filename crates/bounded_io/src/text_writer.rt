@@ -62,7 +62,7 @@ impl<'a, W: Write> TextWriter<'a, W> {
         ensures writes { Writes W.contents self.old self.new [] }
         ensures holds { HoldsNone self.new }
     {
-        self.sent = go_on(self.out, self.held.as_slice(), self.sent);
+        self.sent = resume(self.out, self.held.as_slice(), self.sent);
         self.held.clear();
     }
 
@@ -80,7 +80,7 @@ impl<'a, W: Write> TextWriter<'a, W> {
         ensures fault { IfSome (fault_of self.entry) (λ fault. result ≡ Err fault) }
     {
         let TextWriter { out, sent, held } = self;
-        go_on(out, held.as_slice(), sent).and(Ok(()))
+        resume(out, held.as_slice(), sent).and(Ok(()))
     }
 
     /// Sends what is held where `len` more bytes would not fit beside it.
@@ -106,12 +106,12 @@ impl<'a, W: Write> TextWriter<'a, W> {
         requires { HoldsNone self.old }
         ensures { Writes W.contents self.old self.new bytes.now }
     {
-        self.sent = go_on(self.out, bytes, self.sent);
+        self.sent = resume(self.out, bytes, self.sent);
     }
 }
 
 /// Writes the bytes after those that went out, and nothing after a fault.
-fn go_on<W: Write>(
+fn resume<W: Write>(
     out: &mut W,
     bytes: &[u8],
     sent: Result<u64, WriteFault>,

@@ -6,7 +6,7 @@ use Rattle.std.proofs.lemmas.Slice.Eq.{bytes_eq-Decides}
 use Rattle.clap.specs.Words.{subcommand_of, takes}
 use Rattle.clap.proofs.OnLiterals.{clap_on_literals}
 use Rattle.command_line.specs.Answers.{Finds}
-use Rattle.command_line.specs.Asked.{Asked, asked_by, asked_of, check, explain, limits, lint, lint_of, plan, rehearse, run, state}
+use Rattle.command_line.specs.Asked.{ParsedCommand, asked_by, asked_of, check, explain, limits, lint, lint_of, plan, rehearse, run, state}
 use Rattle.command_line.specs.Operands.{Word, lone_operand, two_operands, three_operands}
 use Rattle.command_line.specs.Runs.{run_of, without_option}
 use Rattle.command_line.specs.Syntax.{rollout}
@@ -14,7 +14,7 @@ use Rattle.command_line.proofs.AcceptedLemmas.{IsValue, of_operands, of_three_op
 use Rattle.command_line.proofs.RunLemmas.{run_behind}
 
 -- clap takes the words, and finds what is asked for
-pub record Accepted (words : List Word) (wanted : Asked) : Type 0 where
+pub record Accepted (words : List Word) (wanted : ParsedCommand) : Type 0 where
   pub taken : takes rollout words ≡ true
   pub found : Finds wanted (subcommand_of rollout words)
 
@@ -223,18 +223,18 @@ unfolding clap_on_literals
 explain_before word p = record { taken = rw (p.no_end, p.no_long, p.no_short) refl; found = rw (p.no_end, p.no_long, p.no_short) refl }
 
 -- what holds of each value that is read holds of what is made of one
-mapped : {X : Type 0} (make : X → Asked) (P : Asked → Type 0) (read : Option X) (wanted : Asked) → ((x : X) → read ≡ Some x → P (make x))
+mapped : {X : Type 0} (make : X → ParsedCommand) (P : ParsedCommand → Type 0) (read : Option X) (wanted : ParsedCommand) → ((x : X) → read ≡ Some x → P (make x))
     → option_map make read ≡ Some wanted → P wanted
 mapped make P None wanted holds is = cc
 mapped make P (Some x) wanted holds is = let same : make x ≡ wanted = cc in subst P same (holds x refl)
 
 -- what is read is the first, or else the second
-either_of : (P : Asked → Type 0) (first second : Option Asked) (wanted : Asked) → (first ≡ Some wanted → P wanted) → (second ≡ Some wanted → P wanted)
+either_of : (P : ParsedCommand → Type 0) (first second : Option ParsedCommand) (wanted : ParsedCommand) → (first ≡ Some wanted → P wanted) → (second ≡ Some wanted → P wanted)
     → option_or first second ≡ Some wanted → P wanted
 either_of P None second wanted of_first of_second is = of_second is
 either_of P (Some one) second wanted of_first of_second is = of_first is
 
-module _ (words : List Word) (wanted : Asked) where
+module _ (words : List Word) (wanted : ParsedCommand) where
   limits_accepted : option_map limits (lone_operand words) ≡ Some wanted → Accepted (codes "limits" ∷ words) wanted
   limits_accepted = mapped limits (Accepted (codes "limits" ∷ words)) (lone_operand words) wanted
       (of_operands (λ given file. Accepted (codes "limits" ∷ given) (limits file)) (λ word h. limits_alone word (value_of_operand word h)) limits_behind
@@ -274,12 +274,12 @@ module _ (words : List Word) (wanted : Asked) where
       (λ asked_for is. let read = run_behind words asked_for is in record { taken = read.taken; found = ((read.inventory, read.playbook), read.forks) })
 
   -- a command of this name, or what else there is
-  by_name : (command name : Word) (here beside : Option Asked) → (here ≡ Some wanted → Accepted (name ∷ words) wanted) → (beside ≡ Some wanted → Accepted (command ∷ words) wanted)
+  by_name : (command name : Word) (here beside : Option ParsedCommand) → (here ≡ Some wanted → Accepted (name ∷ words) wanted) → (beside ≡ Some wanted → Accepted (command ∷ words) wanted)
       → (named : Bool) → bytes_eq command name ≡ named → cond named here beside ≡ Some wanted → Accepted (command ∷ words) wanted
   by_name command name here beside of_here of_beside true at is = subst (λ w. Accepted (w ∷ words) wanted) (sym ((bytes_eq-Decides command name).0 at)) (of_here is)
   by_name command name here beside of_here of_beside false at is = of_beside is
 
-  no_other : (command : Word) → ◌≡◌ {A = Option Asked} None (Some wanted) → Accepted (command ∷ words) wanted
+  no_other : (command : Word) → ◌≡◌ {A = Option ParsedCommand} None (Some wanted) → Accepted (command ∷ words) wanted
   no_other command is = cc
 
   of_command : (command : Word) → asked_of command words ≡ Some wanted → Accepted (command ∷ words) wanted
@@ -294,6 +294,6 @@ module _ (words : List Word) (wanted : Asked) where
       by_name command (codes "limits") _ _ limits_accepted plans (bytes_eq command (codes "limits")) refl
 
 -- clap takes the words that ask for something, and finds it
-pub accepted : (words : List Word) (wanted : Asked) → asked_by words ≡ Some wanted → Accepted words wanted
+pub accepted : (words : List Word) (wanted : ParsedCommand) → asked_by words ≡ Some wanted → Accepted words wanted
 accepted [] wanted is = cc
 accepted (command ∷ words) wanted is = of_command words wanted command is

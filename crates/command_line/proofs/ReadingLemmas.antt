@@ -3,7 +3,7 @@ use Rattle.std.proofs.Common.{◌≡◌, ◌&&◌, ◌++◌, ◌∷◌, Bool, tr
 use Rattle.std.specs.Prelude.{option_and_then}
 use Rattle.std.specs.Str.{bytes_eq}
 use Rattle.command_line.specs.Operands.{Word, dashes}
-use Rattle.command_line.specs.OptionReads.{Given, Reading, Spelling, awaits, flag, holds, leading, read, read_behind, spelled, taken, with_given, with_spelled, with_word}
+use Rattle.command_line.specs.OptionReads.{OptionMatch, Reading, Spelling, awaits, flag, holds, leading, read, read_behind, spelled, taken, with_given, with_spelled, with_word}
 use Rattle.command_line.specs.declared.option_name.OptionName.{OptionName}
 
 abbrev pub goes_on : Bool → Word → Bool
@@ -16,10 +16,10 @@ abbrev same_found : Found → Found → Type 0
 same_found a b = a ≡ b
 
 -- the words and the options that were kept, before what the words that are left come to
-abbrev pub joined : List Word → List Given → Reading → Reading
+abbrev pub joined : List Word → List OptionMatch → Reading → Reading
 joined kept given reading = record { plain = kept ++ reading.plain; given = given ++ reading.given }
 
-abbrev pub one : OptionName → Word → Given
+abbrev pub one : OptionName → Word → OptionMatch
 one option value = record { option = option; value = value }
 
 module _ (options : List OptionName) where
@@ -71,15 +71,15 @@ module _ (options : List OptionName) where
       by_cases None words = refl
       by_cases (Some s) words = refl
 
-  pub goes_by_option : (kept : List Word) (given more : List Given) (all : Reading) (front : Bool) (word : Word) (words : List Word) (option : OptionName) (value : Word) (rest : List Word)
+  pub goes_by_option : (kept : List Word) (given more : List OptionMatch) (all : Reading) (front : Bool) (word : Word) (words : List Word) (option : OptionName) (value : Word) (rest : List Word)
       → cond (goes_on front word) (leading options word words) None ≡ Some (option, value, rest) → more ≡ given ++ one option value ∷ []
       → joined kept given (left front (word ∷ words)) ≡ all → joined kept more (left (goes_on front word) rest) ≡ all
   goes_by_option kept given more all front word words option value rest found is was =
       let reading = left (goes_on front word) rest in
-      ap (λ g. joined kept g reading) is ∙ ap (λ (g : List Given). record { plain = kept ++ reading.plain; given = g }) (append_assoc given (one option value ∷ []) reading.given)
+      ap (λ g. joined kept g reading) is ∙ ap (λ (g : List OptionMatch). record { plain = kept ++ reading.plain; given = g }) (append_assoc given (one option value ∷ []) reading.given)
       ∙ sym (ap (joined kept given) (step_found front (bytes_eq word dashes) word words option value rest refl found)) ∙ was
 
-  pub goes_by_word : (kept more : List Word) (given : List Given) (all : Reading) (front : Bool) (word : Word) (words : List Word)
+  pub goes_by_word : (kept more : List Word) (given : List OptionMatch) (all : Reading) (front : Bool) (word : Word) (words : List Word)
       → cond (goes_on front word) (leading options word words) None ≡ None → more ≡ kept ++ word ∷ []
       → joined kept given (left front (word ∷ words)) ≡ all → joined more given (left (goes_on front word) words) ≡ all
   goes_by_word kept more given all front word words none is was =

@@ -16,7 +16,7 @@ use Rattle.command_line.specs.Messages.{IsAskedFor}
 use Rattle.command_line.specs.declared.message.Message.{Message}
 use Rattle.command_line.specs.Syntax.{rollout}
 use Rattle.command_line.specs.Operands.{Word}
-use Rattle.command_line.specs.Asked.{Asked, asked_by}
+use Rattle.command_line.specs.Asked.{ParsedCommand, asked_by}
 use Rattle.command_line.specs.Words.{is_empty, is_command, IsNoneOf, requests, IsTextFor, Explains, Refuses, Says}
 use Rattle.command_line.proofs.AskedLemmas.{accepted}
 
@@ -162,9 +162,9 @@ no_request words other = (
 
 -- the words ask for nothing that clap would have to take
 abbrev AskNothing : List Word → Type 0
-AskNothing words = (wanted : Asked) → asked_by words ≢ Some wanted
+AskNothing words = (wanted : ParsedCommand) → asked_by words ≢ Some wanted
 
-no_line_by : (words : List Word) (wanted : Option Asked) → asked_by words ≡ wanted → is_empty words ≡ false → AskNothing words → is_command words ≡ false
+no_line_by : (words : List Word) (wanted : Option ParsedCommand) → asked_by words ≡ wanted → is_empty words ≡ false → AskNothing words → is_command words ≡ false
 no_line_by words None is some nothing = rw (some, is) refl
 no_line_by words (Some wanted) is some nothing = absurd (nothing wanted is)
 
@@ -241,7 +241,7 @@ requested words e (Ok (Print message)) some taken has answers = (
 )
 
 -- clap finds what the words ask for, so where it finds something else they ask for nothing
-others_by : (words : List Word) (wanted : Option Asked) → asked_by words ≡ wanted → is_empty words ≡ false → FindsOthers wanted (subcommand_of rollout words) → is_command words ≡ false
+others_by : (words : List Word) (wanted : Option ParsedCommand) → asked_by words ≡ wanted → is_empty words ≡ false → FindsOthers wanted (subcommand_of rollout words) → is_command words ≡ false
 others_by words (Some wanted) is some others = absurd (others (accepted words wanted is).found)
 others_by words None is some others = rw (some, is) refl
 

@@ -12,7 +12,7 @@ use Rattle.command_line.specs.Messages as messages
 use Rattle.command_line.specs.Messages.{IsAskedFor}
 use Rattle.command_line.specs.Syntax.{file_in, forks_found}
 use Rattle.command_line.specs.Operands.{Word}
-use Rattle.command_line.specs.Asked.{Asked, asked_by, both_names, file_name, line_asks, three_names}
+use Rattle.command_line.specs.Asked.{ParsedCommand, asked_by, both_names, file_name, line_asks, three_names}
 use Rattle.command_line.specs.Asked as by
 
 -- the two files were found
@@ -46,7 +46,7 @@ abbrev pub FindsLint : Word → Option Word → Option (Text × List Row) → Ty
 FindsLint inventory playbook found = (file_in (codes "lint") (codes "INV") found ≡ Some inventory) × (file_in (codes "lint") (codes "PLAY") found ≡ playbook)
 
 -- clap found what is asked for
-abbrev pub Finds : Asked → Option (Text × List Row) → Type 0
+abbrev pub Finds : ParsedCommand → Option (Text × List Row) → Type 0
 Finds (by.limits inventory) found = file_in (codes "limits") (codes "INV") found ≡ Some inventory
 Finds (by.plan files) found = FindsBoth (codes "plan") (codes "PLAY") files found
 Finds (by.run run) found = FindsBoth (codes "run") (codes "PLAY") (run.0, run.1) found × (forks_found found ≡ Some run.2)
@@ -57,7 +57,7 @@ Finds (by.lint inventory playbook) found = FindsLint inventory playbook found
 Finds (by.explain word) found = file_in (codes "explain") (codes "NUMBER|RULE") found ≡ Some word
 
 -- clap found something else than what is asked for, if anything is
-abbrev pub FindsOthers : Option Asked → Option (Text × List Row) → Type 0
+abbrev pub FindsOthers : Option ParsedCommand → Option (Text × List Row) → Type 0
 FindsOthers None found = ⊤
 FindsOthers (Some wanted) found = Finds wanted found → ⊥
 
@@ -69,7 +69,7 @@ Disagrees words found (Apart clash) = ⊥
 Disagrees words found Unexplained = FindsOthers (asked_by words) found
 
 -- the line that asks for this
-abbrev pub AsksFor : Asked → Line → Type 0
+abbrev pub AsksFor : ParsedCommand → Line → Type 0
 AsksFor wanted line = line_asks line ≡ Some wanted
 
 -- the source is the file of this name

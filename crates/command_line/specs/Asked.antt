@@ -4,31 +4,31 @@ use Rattle.std.specs.Option.{option_or}
 use Rattle.std.specs.Str.{bytes_eq}
 use Rattle.command_line.specs.Operands.{Word, lone_operand, three_operands, two_operands}
 use Rattle.command_line.specs.Runs.{run_of, without_option}
-use Rattle.command_line.specs.declared.asked.Asked as declared
-use Rattle.command_line.specs.declared.asked.Asked.TheVariants as by
+use Rattle.command_line.specs.declared.parsed_command.ParsedCommand as declared
+use Rattle.command_line.specs.declared.parsed_command.ParsedCommand.TheVariants as by
 use Rattle.command_line.specs.declared.command.Line.{Line}
 use Rattle.command_line.specs.declared.command.Line.TheVariants.{Limits, Plan, Run, Rehearse, State, Check, Lint, Explain, Print}
 use Rattle.command_line.specs.declared.command.Source.{Source}
 use Rattle.command_line.specs.declared.command.Source.TheVariants.{StandardInput, File}
 
 -- a command with the names of its files; a run with its forks too, and what is explained is a word as it is written, a number or the name of a kind
-pub data Asked : Type 0 where
-  limits : Word → Asked
-  plan : Word × Word → Asked
-  run : Word × Word × ℕ → Asked
-  rehearse : Word × Word → Asked
-  state : Word × Word → Asked
-  check : Word × Word × Word → Asked
-  lint : Word → Option Word → Asked
-  explain : Word → Asked
+pub data ParsedCommand : Type 0 where
+  limits : Word → ParsedCommand
+  plan : Word × Word → ParsedCommand
+  run : Word × Word × ℕ → ParsedCommand
+  rehearse : Word × Word → ParsedCommand
+  state : Word × Word → ParsedCommand
+  check : Word × Word × Word → ParsedCommand
+  lint : Word → Option Word → ParsedCommand
+  explain : Word → ParsedCommand
 
 -- an inventory alone, or with a playbook
-abbrev pub lint_of : List Word → Option Asked
+abbrev pub lint_of : List Word → Option ParsedCommand
 lint_of words =
     option_or (option_map (λ inventory. lint inventory None) (lone_operand words)) (option_map (λ files. lint files.0 (Some files.1)) (two_operands words))
 
 -- what a command of this name asks for with these words behind it
-abbrev pub asked_of : Word → List Word → Option Asked
+abbrev pub asked_of : Word → List Word → Option ParsedCommand
 asked_of command words =
     if bytes_eq command (codes "limits") then option_map limits (lone_operand words)
     else (if bytes_eq command (codes "plan") then option_map plan (two_operands words)
@@ -40,12 +40,12 @@ asked_of command words =
     else (if bytes_eq command (codes "explain") then option_map explain (lone_operand words) else None)))))))
 
 -- what the words ask for, the program's own name left out
-abbrev pub asked_by : List Word → Option Asked
+abbrev pub asked_by : List Word → Option ParsedCommand
 asked_by [] = None
 asked_by (command ∷ words) = asked_of command words
 
 -- the same as the program has it
-abbrev pub asked_as : declared.Asked → Asked
+abbrev pub asked_as : declared.ParsedCommand → ParsedCommand
 asked_as (by.Limits inventory) = limits inventory.now
 asked_as (by.Plan inventory playbook) = plan (inventory.now, playbook.now)
 asked_as (by.Run inventory playbook forks) = run (inventory.now, playbook.now, forks)
@@ -69,12 +69,12 @@ three_names first second third =
     option_and_then (λ names. option_map (λ other. (names.0, names.1, other)) (file_name third)) (both_names first second)
 
 -- the line of `lint` has a playbook, or none
-abbrev pub lint_asks : Word → Option Source → Option Asked
+abbrev pub lint_asks : Word → Option Source → Option ParsedCommand
 lint_asks inventory None = Some (lint inventory None)
 lint_asks inventory (Some playbook) = option_map (λ name. lint inventory (Some name)) (file_name playbook)
 
 -- what a line asks for, by the names of its files
-abbrev pub line_asks : Line → Option Asked
+abbrev pub line_asks : Line → Option ParsedCommand
 line_asks (Limits inventory) = option_map limits (file_name inventory)
 line_asks (Plan inventory playbook) = option_map plan (both_names inventory playbook)
 line_asks (Run inventory playbook forks) = option_map (λ names. run (names.0, names.1, forks)) (both_names inventory playbook)

@@ -1,9 +1,9 @@
 -- What is said of words that don't go together.
 use Rattle.std.specs.Prelude.{ℕ, List, codes}
-use Rattle.command_line.specs.declared.clash.Clash.{Clash}
-use Rattle.command_line.specs.declared.clash.Clash.TheVariants.{FailingAlone, JournalOfResume, ChangedInputsAlone, UpAlone, GroupsFrom, ExpectBeyond, CommandsBeside, NoJson, StrictOfOthers, NoColor, NoEntry}
+use Rattle.command_line.specs.declared.option_conflict.OptionConflict.{OptionConflict}
+use Rattle.command_line.specs.declared.option_conflict.OptionConflict.TheVariants.{FailingAlone, JournalOfResume, ChangedInputsAlone, UpAlone, GroupsFrom, ExpectBeyond, CommandsBeside, NoJson, StrictOfOthers, NoColor, NoEntry}
 
-abbrev pub text_of : Clash → List ℕ
+abbrev pub text_of : OptionConflict → List ℕ
 text_of FailingAlone = codes "error: --failing goes with --forecast\n"
 text_of JournalOfResume = codes "error: --journal doesn't go with --resume: a run that goes on is kept in the journal that --resume names\n"
 text_of ChangedInputsAlone = codes "error: --changed-inputs goes with --resume, with --from and with state\n"

@@ -3,7 +3,7 @@ use Rattle.std.specs.Prelude.{if◌then◌else◌, List, [], ◌∷◌, Option, 
 use Rattle.std.specs.Option.{option_or}
 use Rattle.std.specs.Str.{bytes_eq}
 use Rattle.command_line.specs.declared.option_name.OptionName.{OptionName}
-use Rattle.command_line.specs.declared.option_reading.Given as declared_given
+use Rattle.command_line.specs.declared.option_reading.OptionMatch as declared_given
 use Rattle.command_line.specs.declared.spelling.Spelling as declared_spelling
 use Rattle.command_line.specs.declared.spelling.Spelling.TheVariants as spelling
 use Rattle.command_line.specs.Operands.{Word, dashes}
@@ -11,7 +11,7 @@ use Rattle.command_line.specs.OptionNames.{has_value, is_named, text_of}
 use Rattle.command_line.specs.Options.{behind}
 
 -- an option, and its value; a flag has the empty one
-pub record Given : Type 0 where
+pub record OptionMatch : Type 0 where
   pub option : OptionName
   pub value : Word
 
@@ -21,7 +21,7 @@ pub data Spelling : Type 0 where
   awaits : OptionName → Spelling
   holds : OptionName → Word → Spelling
 
-abbrev pub given_as : declared_given.Given → Given
+abbrev pub given_as : declared_given.OptionMatch → OptionMatch
 given_as given = record { option = given.option; value = string_bytes given.value }
 
 abbrev pub spelling_as : declared_spelling.Spelling → Spelling
@@ -51,7 +51,7 @@ spelled (option ∷ options) word = option_or (spelled_as option word) (spelled 
 -- the words that are no options, and the options with their values
 pub record Reading : Type 0 where
   pub plain : List Word
-  pub given : List Given
+  pub given : List OptionMatch
 
 abbrev pub nothing : Reading
 nothing = record { plain = []; given = [] }

@@ -11,8 +11,8 @@ use Rattle.command_line.specs.declared.fault.LineFault.{LineFault}
 use Rattle.command_line.specs.declared.message.Message.{Message}
 use Rattle.command_line.specs.declared.fault.LineFault.TheVariants.{BadLine, Apart, Unexplained, Memory}
 use Rattle.command_line.specs.declared.command.Source.TheVariants.{StandardInput, File}
-use Rattle.command_line.specs.Asked.{Asked, asked_by, line_asks}
-use Rattle.command_line.specs.declared.clash.Clash.{Clash}
+use Rattle.command_line.specs.Asked.{ParsedCommand, asked_by, line_asks}
+use Rattle.command_line.specs.declared.option_conflict.OptionConflict.{OptionConflict}
 use Rattle.command_line.specs.Wishes.{clash_in, plain}
 use Rattle.command_line.specs.Operands.{Word}
 
@@ -29,7 +29,7 @@ abbrev pub IsTextFor : List Word → Message → Type 0
 IsTextFor words message = IsAmong (messages.kind_of message) (fault_of rollout words)
 
 -- the words ask for this
-abbrev pub AskFor : List Word → Option Asked → Type 0
+abbrev pub AskFor : List Word → Option ParsedCommand → Type 0
 AskFor words None = ⊥
 AskFor words (Some wanted) = asked_by words ≡ Some wanted
 
@@ -78,7 +78,7 @@ Refuses words (Apart clash) = ⊥
 Refuses words Unexplained = (is_command words ≡ false) × IsNoneOf words requests × (fault_of rollout words ≡ [])
 
 -- the same, where the words hold options that don't go together: that is told where clap would take them
-abbrev pub RefusesWith : Option Clash → List Word → LineFault → Type 0
+abbrev pub RefusesWith : Option OptionConflict → List Word → LineFault → Type 0
 RefusesWith None words fault = Refuses words fault
 RefusesWith (Some clash) words Memory = Refuses words Memory
 RefusesWith (Some clash) words (BadLine message) = Refuses words (BadLine message)

@@ -2,8 +2,8 @@
 ghost use Rattle.std.specs.Prelude.{◌≡◌};
 ghost use Rattle.command_line.specs.Faults.{number_of};
 
-use crate::clash::Clash;
 use crate::message::Message;
+use crate::option_conflict::OptionConflict;
 use std::fmt;
 
 /// Why the words are no line.
@@ -12,7 +12,7 @@ pub enum LineFault {
     /// The words are no line of the program; clap says what is wrong with them.
     BadLine(Message),
     /// Options of the words don't go together.
-    Apart(Clash),
+    Apart(OptionConflict),
     /// The words are no line, and clap has nothing to say of them: they are no text, or it reads them in another way.
     Unexplained,
     Memory,

@@ -6,37 +6,41 @@ ghost use Rattle.command_line.specs.Answers.{AreFiles, AreThree, AsksFor, Finds,
 ghost use Rattle.command_line.specs.Asked as spec;
 ghost use Rattle.command_line.specs.Asked.{asked_as};
 
-use crate::asked::Asked;
 use crate::command::{Line, Source};
 use crate::fault::LineFault;
 use crate::forks::Forks;
 use crate::found;
+use crate::parsed_command::ParsedCommand;
 use clap::ArgMatches;
 use std::alloc::{AllocError, Global};
 
 /// The line that asks for this, where clap found it too.
 pub(crate) fn line_for(
     alloc: Global,
-    asked: Asked<'_>,
+    asked: ParsedCommand<'_>,
     matches: &ArgMatches<'_>,
 ) -> Result<Line, LineFault>
     ensures ok { IfOk result (AsksFor (asked_as asked.entry)) }
     ensures err { IfErr result (IsUnmade (Finds (asked_as asked.entry) (subcommand_rows_of matches.now))) }
 {
     match asked {
-        Asked::Limits(inventory) => limits_line(alloc, inventory, matches),
-        Asked::Plan(inventory, playbook) => plan_line(alloc, inventory, playbook, matches),
-        Asked::Run(inventory, playbook, forks) => {
+        ParsedCommand::Limits(inventory) => limits_line(alloc, inventory, matches),
+        ParsedCommand::Plan(inventory, playbook) => plan_line(alloc, inventory, playbook, matches),
+        ParsedCommand::Run(inventory, playbook, forks) => {
             run_line(alloc, inventory, playbook, forks, matches)
         }
-        Asked::Rehearse(inventory, playbook) => rehearse_line(alloc, inventory, playbook, matches),
-        Asked::State(inventory, journal) => state_line(alloc, inventory, journal, matches),
-        Asked::Check(inventory, playbook, plan) => {
+        ParsedCommand::Rehearse(inventory, playbook) => rehearse_line(
+            alloc, inventory, playbook, matches,
+        ),
+        ParsedCommand::State(inventory, journal) => state_line(alloc, inventory, journal, matches),
+        ParsedCommand::Check(inventory, playbook, plan) => {
             check_line(alloc, inventory, playbook, plan, matches)
         }
-        Asked::Lint(inventory) => lint_line(alloc, inventory, matches),
-        Asked::LintBoth(inventory, playbook) => lint_both_line(alloc, inventory, playbook, matches),
-        Asked::Explain(word) => explain_line(alloc, word, matches),
+        ParsedCommand::Lint(inventory) => lint_line(alloc, inventory, matches),
+        ParsedCommand::LintBoth(inventory, playbook) => lint_both_line(
+            alloc, inventory, playbook, matches,
+        ),
+        ParsedCommand::Explain(word) => explain_line(alloc, word, matches),
     }
 }
 

@@ -10,7 +10,7 @@ use std::alloc::{AllocError, Global};
 
 /// An option that was given, and its value; a flag has the empty one.
 #[derive(Debug, Drop)]
-pub(crate) struct Given {
+pub(crate) struct OptionMatch {
     pub(crate) option: OptionName,
     pub(crate) value: String,
 }
@@ -20,7 +20,7 @@ pub(crate) fn read_options(
     alloc: Global,
     options: &[OptionName],
     words: &[String],
-) -> Result<(Vec<String>, Vec<Given>), AllocError>
+) -> Result<(Vec<String>, Vec<OptionMatch>), AllocError>
     ensures plain { IfOk result (λ read. map string_bytes read.0.items ≡ (spec.read options.now (map string_bytes words.now)).plain) }
     ensures given { IfOk result (λ read. map spec.given_as read.1.items ≡ (spec.read options.now (map string_bytes words.now)).given) }
 {
@@ -33,7 +33,7 @@ pub(crate) fn read_options(
         match leading(in_front, options, word, rest) {
             Some((option, text, behind)) => {
                 let value = String::from_str(alloc, text)?;
-                given.push(Given { option, value })?;
+                given.push(OptionMatch { option, value })?;
                 left = behind;
             }
             None => {

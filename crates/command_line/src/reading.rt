@@ -4,11 +4,11 @@ ghost use Rattle.clap.specs.Words.{kind_of, subcommand_rows_of};
 ghost use Rattle.command_line.specs.Answers.{AnswersFor, Disagrees};
 ghost use Rattle.command_line.specs.Words.{Refuses, Says};
 
-use crate::asked::asked_by;
 use crate::command::{Line, Source};
 use crate::fault::LineFault;
 use crate::making::line_for;
 use crate::message::Message;
+use crate::parsed_command::asked_by;
 use crate::syntax;
 use clap::error::ErrorKind;
 use clap::{ArgMatches, Error};

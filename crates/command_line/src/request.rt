@@ -4,20 +4,20 @@ ghost use Rattle.command_line.specs.OptionReads.{given_as};
 ghost use Rattle.command_line.specs.Wishes as spec;
 ghost use Rattle.command_line.specs.Words.{Refuses, RefusesLine, RefusesWith, Says};
 
-use crate::clash::Clash;
 use crate::command::Line;
 use crate::fault::LineFault;
-use crate::fitting::{clash_of, options_of};
-use crate::option_reading::{Given, read_options};
+use crate::option_conflict::OptionConflict;
+use crate::option_reading::{OptionMatch, read_options};
+use crate::option_rules::{clash_of, options_of};
+use crate::options::{Options, wishes_of};
 use crate::reading::line;
-use crate::wishes::{Wishes, wishes_of};
 use std::alloc::{AllocError, Global};
 
 /// A line, and what is asked for beside it.
 #[derive(Debug, Drop)]
 pub struct Request {
     pub line: Line,
-    pub wishes: Wishes,
+    pub wishes: Options,
 }
 
 /// What the words ask for, the program's name left out. The options of a command may stand anywhere before the word that ends options, and more than once; the word behind one that has a
@@ -56,7 +56,11 @@ fn command_request(
 }
 
 /// What these words ask for, whose options don't go together: the help, if anything.
-fn clashing_request(alloc: Global, words: &[String], clash: Clash) -> Result<Request, LineFault>
+fn clashing_request(
+    alloc: Global,
+    words: &[String],
+    clash: OptionConflict,
+) -> Result<Request, LineFault>
     ensures ok { IfOk result (λ asked. Says (map string_bytes words.now) asked.line) }
     ensures wishes { IfOk result (λ asked. spec.wish_as asked.wishes ≡ spec.wish_of []) }
     ensures err { IfErr result (RefusesWith (Some clash) (map string_bytes words.now)) }
@@ -77,7 +81,7 @@ fn bare_request(alloc: Global, words: &[String]) -> Result<Request, LineFault>
     match line(alloc, words) {
         Ok(line) => Ok(Request {
             line,
-            wishes: Wishes::none(alloc),
+            wishes: Options::none(alloc),
         }),
         Err(fault) => Err(fault),
     }
@@ -88,7 +92,7 @@ fn wished_request(
     alloc: Global,
     command: &String,
     words: Vec<String>,
-    given: &[Given],
+    given: &[OptionMatch],
 ) -> Result<Request, LineFault>
     ensures ok { IfOk result (λ asked. Says (string_bytes command.now ∷ map string_bytes words.items) asked.line) }
     ensures wishes { IfOk result (λ asked. spec.wish_as asked.wishes ≡ spec.wish_of (map given_as given.now)) }

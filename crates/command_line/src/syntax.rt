@@ -8,9 +8,9 @@ use crate::arguments;
 use crate::arguments::{
     any_playbook, forks, inventory, journal, old_inventory, option, playbook, topic,
 };
-use crate::fitting::{OF_LIMITS, OF_LINT, OF_PLAN, OF_REHEARSAL, OF_RUN, OF_STATE};
 use crate::option_help::CommandName;
 use crate::option_name::OptionName;
+use crate::option_rules::{OF_LIMITS, OF_LINT, OF_PLAN, OF_REHEARSAL, OF_RUN, OF_STATE};
 use clap::error::ErrorKind;
 use clap::{ArgMatches, Command, Error};
 use std::alloc::{AllocError, Global};

@@ -2,8 +2,8 @@
 use Rattle.std.proofs.Common.{◌≡◌, ℕ, true, false, List, [], ◌∷◌, refl, ap, ◌∙◌, Ok}
 use Rattle.cond.specs.Tokens.{Token, Name, Or, And, Dot, Closing}
 use Rattle.cond.specs.Grammar.{whole, part, hostname, Operand, text, number, truth, ref, Test, stands, defined, equals, within, alone, field_word, field_named, operand_then, test_then}
-use Rattle.text_parts.specs.declared.field.Field.{Field}
-use Rattle.text_parts.specs.declared.field.Field.TheVariants as field
+use Rattle.text_syntax.specs.declared.field.Field.{Field}
+use Rattle.text_syntax.specs.declared.field.Field.TheVariants as field
 use Rattle.cond.specs.declared.states.State.TheVariants as state
 use Rattle.cond.specs.Heads.{apart, field_head, name_head, operand_head, asked_head, right_by, equals_head, in_head, tail_head, subject_by, test_head}
 use Rattle.cond.specs.Readings.{ends_neg}

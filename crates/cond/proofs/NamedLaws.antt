@@ -3,9 +3,9 @@ use Rattle.std.proofs.Common.{◌≡◌, ℕ, Bool, true, false, cond, bytes_eq,
 use Rattle.std.specs.Prelude.{codes}
 use Rattle.std.specs.List.{find}
 use Rattle.std.proofs.lemmas.Slice.Eq.{bytes_eq-Decides}
-use Rattle.text_parts.specs.Words.{all_fields}
+use Rattle.text_syntax.specs.Words.{all_fields}
 use Rattle.cond.specs.Grammar.{field_word, state_word, field_named, state_named}
-use Rattle.text_parts.specs.declared.field.Field.{Field}
+use Rattle.text_syntax.specs.declared.field.Field.{Field}
 use Rattle.cond.specs.declared.states.State.{State}
 use Rattle.cond.specs.declared.states.State.TheVariants as state
 

@@ -2,8 +2,8 @@
 use Rattle.std.proofs.Common.{◌≡◌, ℕ, true, List, [], ◌∷◌, append-nil, sym, refl, ap, ◌∙◌, Option, Some, None}
 use Rattle.cond.specs.Tokens.{Token, Name, Number, Text, Truth, Host, Dot}
 use Rattle.cond.specs.Grammar.{whole, part, hostname, Operand, text, number, truth, ref, field_word, field_named, operand_then}
-use Rattle.text_parts.specs.declared.field.Field.{Field}
-use Rattle.text_parts.specs.declared.field.Field.TheVariants as field
+use Rattle.text_syntax.specs.declared.field.Field.{Field}
+use Rattle.text_syntax.specs.declared.field.Field.TheVariants as field
 use Rattle.cond.specs.Heads.{apart_by, apart, field_by, field_word_by, field_head, name_by, name_head, operand_by, operand_head}
 use Rattle.cond.proofs.NamedLaws.{named_field}
 use Rattle.cond.proofs.Reached.{Reaches, stops, reads, grows, behind_others}

@@ -1,7 +1,7 @@
 -- The reserved words of words are the words that are tokens of their own.
 use Rattle.std.proofs.Common.{◌≡◌, Bool, true, false, ◌||◌, cond, bytes_eq, ℕ, List, refl, sym, subst}
 use Rattle.std.specs.Prelude.{codes}
-use Rattle.text_parts.specs.Words.{is_reserved}
+use Rattle.text_syntax.specs.Words.{is_reserved}
 use Rattle.cond.specs.Tokens.{Token, Name, Truth, Not, And, Or, Is, In, Groups, Host, token_of_word}
 
 abbrev IsNoName : Token → Type 0

@@ -6,7 +6,7 @@ use Rattle.std.proofs.lemmas.Str.{IsCharBoundary-end, IsCharBoundary-after_ascii
 use Rattle.std.proofs.lemmas.List.Sums.{prefix_len_stops, prefix_len-le-length}
 use Rattle.std.proofs.lemmas.Bool.Decides.{nat_tests}
 use Rattle.std.proofs.lemmas.Bool.{cases_lt, eqb-true}
-use Rattle.text_parts.proofs.Boundaries.{run_ends, digit_ascii, name_ascii}
+use Rattle.text_syntax.proofs.Boundaries.{run_ends, digit_ascii, name_ascii}
 use Rattle.cond.specs.Tokens.{Token, is_digit, is_name_byte, is_inside, ended_by}
 
 pub digits_end : (bs : List ℕ) → IsUtf8 bs → IsCharBoundary bs (prefix_len is_digit bs)

@@ -10,7 +10,7 @@ use Rattle.cond.specs.Mentions.{names_in_ref, names_in_operand, names_in_test, n
 use Rattle.cond.specs.Trees.{written, any_of, all_of, verdict_step, tree_verdict, part_verdict, verdicts, verdict_of, bytes_of, trees_of}
 use Rattle.cond.specs.declared.states.State.{State}
 use Rattle.cond.specs.declared.states.State.TheVariants as state
-use Rattle.text_parts.specs.declared.field.Field.TheVariants as field
+use Rattle.text_syntax.specs.declared.field.Field.TheVariants as field
 use Rattle.cond.specs.declared.tree.Tree.{Tree}
 use Rattle.cond.specs.declared.tree.Tree.TheOpen.{Tree-F}
 use Rattle.cond.specs.declared.tree.Tree.TheViews.{roll-Tree}

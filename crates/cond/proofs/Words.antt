@@ -2,8 +2,8 @@
 use Rattle.std.proofs.Common.{◌≡◌, ℕ, ◌==◌, cond, List, get_or, sym, refl, ap, ◌∙◌, arith}
 use Rattle.std.specs.Prelude.{codes}
 use Rattle.cond.specs.Grammar.{field_word, state_word}
-use Rattle.text_parts.specs.declared.field.Field.{Field}
-use Rattle.text_parts.specs.declared.field.Field.TheVariants as field
+use Rattle.text_syntax.specs.declared.field.Field.{Field}
+use Rattle.text_syntax.specs.declared.field.Field.TheVariants as field
 use Rattle.cond.specs.declared.states.State.{State}
 use Rattle.cond.specs.declared.states.State.TheVariants as state
 

@@ -1,8 +1,8 @@
 -- The grammar of conditions: a derivation for each rule, and the tokens that it stands for.
 use Rattle.std.specs.Prelude.{ℕ, suc, max, Bool, true, false, bytes_eq, codes, ℤ, Option, Some, None, List, [], ◌∷◌, if◌then◌else◌}
 use Rattle.cond.specs.Tokens.{Token, Name, Number, Text, Truth, Not, And, Or, Is, In, Groups, Host, Equal, Unequal, Dot, Opening, Closing}
-pub use Rattle.text_parts.specs.Words.{Ref, whole, part, hostname, field_word}
-unfoldable pub use Rattle.text_parts.specs.Words.{field_named}
+pub use Rattle.text_syntax.specs.Words.{Ref, whole, part, hostname, field_word}
+unfoldable pub use Rattle.text_syntax.specs.Words.{field_named}
 use Rattle.cond.specs.declared.states.State.{State}
 use Rattle.cond.specs.declared.states.State.TheVariants as state
 

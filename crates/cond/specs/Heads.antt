@@ -3,7 +3,7 @@
 use Rattle.std.specs.Prelude.{ℕ, Bool, true, false, bytes_eq, codes, Option, Some, None, Result, Ok, Err, List, [], ◌∷◌, if◌then◌else◌}
 use Rattle.cond.specs.Tokens.{Token, Name, Number, Text, Truth, Not, And, Or, Is, In, Groups, Host, Equal, Unequal, Dot, Opening, Closing}
 use Rattle.cond.specs.Grammar.{Ref, whole, part, hostname, Operand, text, number, truth, ref, Test, stands, defined, equals, within, alone, field_named, state_named}
-use Rattle.text_parts.specs.declared.field.Field.{Field}
+use Rattle.text_syntax.specs.declared.field.Field.{Field}
 use Rattle.cond.specs.declared.states.State.{State}
 
 abbrev pub Head : Type 0 → Type 0

@@ -3,10 +3,10 @@ use Rattle.std.specs.Prelude.{ℕ, Bool, true, false, ◌&&◌, nat_lt, nat_eq, 
 use Rattle.std.specs.Prelude as std
 use Rattle.std.specs.Ordering.{int_eq}
 use Rattle.group_tree.specs.Variables.{Scalar, Text, Int, Truth}
-use Rattle.text_parts.specs.Words.{name_of}
+use Rattle.text_syntax.specs.Words.{name_of}
 use Rattle.cond.specs.Grammar.{Ref, whole, part, hostname, Operand, text, number, truth, ref, Test, stands, defined, equals, within, alone, Any, all, or, All, neg, and, Neg, not, primary, Primary, brackets, test}
-use Rattle.text_parts.specs.declared.field.Field.{Field}
-use Rattle.text_parts.specs.declared.field.Field.TheVariants as field
+use Rattle.text_syntax.specs.declared.field.Field.{Field}
+use Rattle.text_syntax.specs.declared.field.Field.TheVariants as field
 use Rattle.cond.specs.declared.states.State.{State}
 use Rattle.cond.specs.declared.states.State.TheVariants as state
 

@@ -12,7 +12,7 @@ use Rattle.cond.specs.declared.condition.Part.{Part}
 use Rattle.cond.specs.declared.condition.Part.TheVariants as part
 use Rattle.cond.specs.declared.condition.Cond.{Cond}
 use Rattle.cond.specs.Trees.{written, bytes_of, trees_of}
-use Rattle.text_parts.specs.declared.field.Field.{Field}
+use Rattle.text_syntax.specs.declared.field.Field.{Field}
 
 -- the name that is looked up for a reference: as a whole, or for a field
 abbrev pub names_in_ref : grammar.Ref → List Name

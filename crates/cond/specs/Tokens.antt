@@ -2,7 +2,7 @@
 use Rattle.std.specs.Prelude.{◌≡◌, ℕ, Bool, true, false, not, ◌&&◌, ◌||◌, ◌==◌, ◌^◌, nat_lt, nat_le, bytes_eq, codes, ℤ, pos, neg_ℤ, Option, Some, None, List, [], ◌∷◌, take, drop, if◌then◌else◌}
 use Rattle.std.specs.List.{prefix_len}
 use Rattle.std.specs.Str.Parse.{digits_value}
-pub use Rattle.text_parts.specs.Words.{is_blank, is_letter, is_digit, is_name_byte}
+pub use Rattle.text_syntax.specs.Words.{is_blank, is_letter, is_digit, is_name_byte}
 
 pub data Token : Type 0 where
   Name : List ℕ → Token

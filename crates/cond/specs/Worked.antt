@@ -2,8 +2,8 @@
 use Rattle.std.specs.Prelude.{ℕ, Bool, true, false, ◌||◌, bytes_eq, codes, pos, Option, Some, None, List, [], if◌then◌else◌}
 use Rattle.group_tree.specs.Variables.{Scalar, Text, Int, Truth}
 use Rattle.cond.specs.Meaning.{Value, Registered, Plain, Environment}
-use Rattle.text_parts.specs.declared.field.Field.{Field}
-use Rattle.text_parts.specs.declared.field.Field.TheVariants.{Rc, Stdout, Stderr, Changed, Failed, Skipped}
+use Rattle.text_syntax.specs.declared.field.Field.{Field}
+use Rattle.text_syntax.specs.declared.field.Field.TheVariants.{Rc, Stdout, Stderr, Changed, Failed, Skipped}
 
 -- what ran: `r` and `both`
 abbrev pub ran : Field → Option Scalar

@@ -5,7 +5,7 @@ ghost use Rattle.cond.specs.Meaning.{Environment};
 ghost use Rattle.cond.specs.Trees.{had};
 
 use group_tree::Scalar;
-use text_parts::Field;
+use text_syntax::Field;
 
 /// What a name has: a registered result, as a whole, or a variable's scalar.
 #[derive(Clone, Copy, Debug, PartialEq, Eq)]

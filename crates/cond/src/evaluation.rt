@@ -12,7 +12,7 @@ use crate::span::{split, word_in};
 use crate::states::State;
 use crate::tree::Tree;
 use group_tree::Scalar;
-use text_parts::Field;
+use text_syntax::Field;
 
 /// Whether the condition holds on the host, or the first name without a value that has to be looked up. `or` and `and`
 /// go from left to right and end as soon as they are decided. It takes no memory.

@@ -6,7 +6,7 @@ ghost use Rattle.cond.specs.Tokens.{run, behind_run, token_of_word};
 ghost use Rattle.cond.specs.Seen.{seen, cut};
 
 use crate::kind::Kind;
-use text_parts::{is_digit, is_letter, is_name_byte};
+use text_syntax::{is_digit, is_letter, is_name_byte};
 
 /// The token that the text begins with, and what is behind it; the first byte tells its form.
 pub(crate) fn token_at(text: &str) -> Option<(Kind<'_>, &str)>

@@ -1,7 +1,7 @@
 //! The laws of the grammar, and of what conditions mention.
 ghost use Rattle.std.specs.Prelude.{◌≡◌, ℕ, List, true, false};
 ghost use Rattle.group_tree.specs.Names.{Name};
-ghost use Rattle.text_parts.specs.Words.{is_reserved};
+ghost use Rattle.text_syntax.specs.Words.{is_reserved};
 ghost use Rattle.cond.specs.Grammar.{Any, tokens_of};
 ghost use Rattle.cond.specs.Tokens as token;
 ghost use Rattle.cond.specs.Tokens.{token_of_word};

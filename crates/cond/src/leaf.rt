@@ -1,7 +1,7 @@
 //! The tests that a condition is made of; words stand as places in its text.
 use crate::span::Span;
 use crate::states::State;
-use text_parts::Field;
+use text_syntax::Field;
 
 /// What a condition looks up: a name, a field of the result registered under a name, or the host's own name.
 #[derive(Clone, Copy, Debug)]

@@ -34,4 +34,4 @@ pub use laws::{names_are_unreserved, one_reading, unmentioned_names_make_no_diff
 pub use names::Names;
 pub use parsing::parse;
 pub use states::State;
-pub use text_parts::Field;
+pub use text_syntax::Field;

@@ -12,7 +12,7 @@ use crate::source::Source;
 use crate::span::Span;
 use crate::states::State;
 use crate::stop::Stop;
-use text_parts::Field;
+use text_syntax::Field;
 
 /// The test that the tokens begin with, and what is behind it.
 #[inline(always)]

@@ -5,7 +5,7 @@ ghost use Rattle.cond.specs.Fronts.{FallsAt};
 use crate::front::token_at;
 use crate::mark::{Mark, mark_at};
 use std::alloc::AllocError;
-use text_parts::without_blanks;
+use text_syntax::without_blanks;
 
 /// A token, and the place of its first byte in the text.
 #[derive(Clone, Copy, Debug)]

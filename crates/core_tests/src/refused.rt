@@ -7,9 +7,8 @@ ghost use Rattle.event_log.specs.Rolls.{is_of_program};
 use fork_pool::Script;
 use group_tree::{Group, GroupFault, HostId};
 use roll_core::{
-    Board, Claimed, Done, History, HoldFault, OpenFault, Outcome, Runner, Stage, Status, Unwatched,
+    Board, Claimed, Done, History, HoldFault, NoObserver, OpenFault, Outcome, Runner, Stage, Status,
 };
-use sample_fleets::{Setting, board_of, group, set_up, with};
 use std::alloc::{AllocError, Global};
 use std::marker::Brand;
 use std::process::{Processes, SystemProcess};
@@ -17,6 +16,7 @@ use std::sync::Wait;
 use std::sync::ledger::{Blank, Ledger};
 use std::test::Fail;
 use std::thread::Threads;
+use test_fleets::{Setting, board_of, group, set_up, with};
 
 const PLAY: &str =
     r#"[{"hosts":"all","tasks":[{"command":"one {{ inventory_hostname }}","register":"r","notify":"h"},
@@ -66,7 +66,7 @@ fn script_again(alloc: Global) -> Result<Script, AllocError> {
 }
 
 fn open_again<L: Ledger>(
-    board: &mut Board<'_, Script, L, Unwatched>,
+    board: &mut Board<'_, Script, L, NoObserver>,
     alloc: Global,
 ) -> Result<(), OpenFault> {
     match board.open(alloc, &BATCH) {
@@ -76,7 +76,7 @@ fn open_again<L: Ledger>(
 }
 
 fn hold_again<L: Ledger>(
-    board: &mut Board<'_, Script, L, Unwatched>,
+    board: &mut Board<'_, Script, L, NoObserver>,
     alloc: Global,
 ) -> Result<(), HoldFault> {
     match board.hold(alloc, &SHUT_OUT) {
@@ -87,7 +87,7 @@ fn hold_again<L: Ledger>(
 
 /// Where memory is refused, the board is as before, and claims again.
 fn claim_again<'s, L: Ledger>(
-    board: &mut Board<'s, Script, L, Unwatched>,
+    board: &mut Board<'s, Script, L, NoObserver>,
     alloc: Global,
 ) -> Result<Option<Claimed<'s, Script>>, AllocError>
     ensures { IfOk result (λ out. IfSome out HasItsGo) }
@@ -103,7 +103,7 @@ fn claim_again<'s, L: Ledger>(
 
 /// Reports it in a tally of its own.
 fn report<'s, L: Ledger>(
-    board: &mut Board<'s, Script, L, Unwatched>,
+    board: &mut Board<'s, Script, L, NoObserver>,
     done: Done<'s, Script>,
 ) -> Result<(), Fail> {
     if board.tallies() > 0 {
@@ -121,7 +121,7 @@ fn report<'s, L: Ledger>(
 }
 
 /// Passes the step, or closes the batch.
-fn move_on<L: Ledger>(board: &mut Board<'_, Script, L, Unwatched>) -> Result<(), Fail> {
+fn move_on<L: Ledger>(board: &mut Board<'_, Script, L, NoObserver>) -> Result<(), Fail> {
     match board.stage() {
         Stage::Between => Ok(()),
         Stage::Working(_) => match board.barrier() {
@@ -147,7 +147,7 @@ enum Turn {
 fn take<'s, L: Ledger, H: Threads + Wait + Processes<Started = SystemProcess> + Sync>(
     rt: &H,
     alloc: Global,
-    board: &mut Board<'s, Script, L, Unwatched>,
+    board: &mut Board<'s, Script, L, NoObserver>,
 ) -> Result<Turn, Fail> {
     let script = board.runner();
     let done = match claim_again(board, alloc)? {
@@ -176,7 +176,7 @@ fn take<'s, L: Ledger, H: Threads + Wait + Processes<Started = SystemProcess> + 
 fn work<'s, L: Ledger, H: Threads + Wait + Processes<Started = SystemProcess> + Sync>(
     rt: &H,
     alloc: Global,
-    board: &mut Board<'s, Script, L, Unwatched>,
+    board: &mut Board<'s, Script, L, NoObserver>,
 ) -> Result<Option<HostId>, Fail> {
     let mut stranded = None;
     for _turn in 0..100u32 {
@@ -195,7 +195,7 @@ fn work<'s, L: Ledger, H: Threads + Wait + Processes<Started = SystemProcess> + 
 
 /// A host that was stranded is waited for; where nobody was, the hosts are counted.
 fn ends_so<L: Ledger>(
-    board: &mut Board<'_, Script, L, Unwatched>,
+    board: &mut Board<'_, Script, L, NoObserver>,
     stranded: Option<HostId>,
 ) -> Result<(), Fail> {
     match stranded {
@@ -206,7 +206,7 @@ fn ends_so<L: Ledger>(
     }
 }
 
-fn is_awaited<L: Ledger>(board: &mut Board<'_, Script, L, Unwatched>, host: HostId) -> bool {
+fn is_awaited<L: Ledger>(board: &mut Board<'_, Script, L, NoObserver>, host: HostId) -> bool {
     if board.out() != 1 || board.status(host) != Status::Running {
         return false;
     }
@@ -216,7 +216,7 @@ fn is_awaited<L: Ledger>(board: &mut Board<'_, Script, L, Unwatched>, host: Host
     }
 }
 
-fn are_counted<L: Ledger>(board: &Board<'_, Script, L, Unwatched>) -> bool {
+fn are_counted<L: Ledger>(board: &Board<'_, Script, L, NoObserver>) -> bool {
     for host in BATCH {
         let counts = board.counts(host);
         let shown = (counts.ok, counts.changed, counts.failed, counts.skipped);
@@ -230,7 +230,7 @@ fn are_counted<L: Ledger>(board: &Board<'_, Script, L, Unwatched>) -> bool {
 fn run_batch<L: Ledger, H: Threads + Wait + Processes<Started = SystemProcess> + Sync>(
     rt: &H,
     alloc: Global,
-    board: &mut Board<'_, Script, L, Unwatched>,
+    board: &mut Board<'_, Script, L, NoObserver>,
 ) -> Result<(), Fail> {
     hold_again(board, alloc)?;
     open_again(board, alloc)?;
@@ -239,7 +239,7 @@ fn run_batch<L: Ledger, H: Threads + Wait + Processes<Started = SystemProcess> +
 }
 
 /// What is left has one of each a host, and the history this board's log alone.
-fn is_left_so<L: Ledger>(board: Board<'_, Script, L, Unwatched>) -> Result<(), Fail> {
+fn is_left_so<L: Ledger>(board: Board<'_, Script, L, NoObserver>) -> Result<(), Fail> {
     let log = board.log().len();
     let (left, _watch, history) = board.finish();
     if left.statuses.len() != 3 || left.vars.len() != 3 || left.counts.len() != 3 {

@@ -1,7 +1,7 @@
 //! A region for the tests of trees.
 use group_tree::{Group, GroupFault, Limit, Percentage, Scalar, Tree};
-use sample_fleets::group;
 use std::alloc::Allocator;
+use test_fleets::group;
 
 /// A rack with a host that has variables.
 fn second_rack<A: Allocator + Clone>(alloc: A) -> Result<Group<A>, GroupFault> {

@@ -3,7 +3,7 @@ use Rattle.std.proofs.Common.{◌≡◌, ℕ, zero, suc, ◌<◌, true, false, �
 use Rattle.std.proofs.Common.{arith, inl, inr, ◌⊎◌}
 use Rattle.std.proofs.lemmas.Bool.{false≢true, not-true, and_parts, or_parts, or_cases, or_left, or_right}
 use Rattle.group_tree.specs.Names.{Name, same_name, is_among, are_distinct, begins}
-use Rattle.fleet_numbers.proofs.SortedNamesLemmas.{same_name-true, same_name-itself}
+use Rattle.fleet_index.proofs.SortedNamesLemmas.{same_name-true, same_name-itself}
 
 pub begins_none : (xs : List Name) → begins xs [] ≡ true → xs ≡ []
 begins_none [] e = refl

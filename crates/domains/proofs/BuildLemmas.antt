@@ -9,11 +9,11 @@ use Rattle.std.proofs.lemmas.List.FromFn.{length-map-range_with_len}
 use Rattle.group_tree.specs.Names.{Name, are_distinct}
 use Rattle.group_tree.specs.Places.{Place, Inventory}
 use Rattle.group_tree.specs.DownLimits.{Limit}
-use Rattle.fleet_numbers.specs.NumberLists.{has_number, list_at, are_below, IsRising}
-use Rattle.fleet_numbers.specs.GroupPaths.{paths_from}
-use Rattle.fleet_numbers.specs.DealOrder.{IsDealt, numbered_bound}
-use Rattle.fleet_numbers.proofs.RisingLemmas.{Ascends, Ascends-rising, are_below-rising}
-use Rattle.fleet_numbers.proofs.PathLemmas.{length-paths_from}
+use Rattle.fleet_index.specs.NumberLists.{has_number, list_at, are_below, IsRising}
+use Rattle.fleet_index.specs.GroupPaths.{paths_from}
+use Rattle.fleet_index.specs.DealOrder.{IsDealt, numbered_bound}
+use Rattle.fleet_index.proofs.RisingLemmas.{Ascends, Ascends-rising, are_below-rising}
+use Rattle.fleet_index.proofs.PathLemmas.{length-paths_from}
 use Rattle.domains.specs.Hosts.{is_off}
 use Rattle.domains.specs.FleetLists.{parent_on}
 use Rattle.domains.specs.FleetViews.{AreAmong, IsInSubtree, IsSound, off_count}

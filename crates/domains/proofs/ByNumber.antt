@@ -6,9 +6,9 @@ use Rattle.group_tree.specs.Places.{Place, Row, Inventory, path_of}
 use Rattle.group_tree.specs.Subtrees.{Host, Subtree}
 use Rattle.group_tree.specs.Members.{holds}
 use Rattle.group_tree.specs.DownLimits.{Limit, allowed}
-use Rattle.fleet_numbers.specs.NumberLists.{has_number, list_at, numbers_where, last_where}
-use Rattle.fleet_numbers.specs.GroupPaths.{paths_from, is_member}
-use Rattle.fleet_numbers.proofs.PathLemmas.{path_to, on_path}
+use Rattle.fleet_index.specs.NumberLists.{has_number, list_at, numbers_where, last_where}
+use Rattle.fleet_index.specs.GroupPaths.{paths_from, is_member}
+use Rattle.fleet_index.proofs.PathLemmas.{path_to, on_path}
 use Rattle.domains.specs.Walks.{row_at}
 use Rattle.domains.specs.Starts.{place_at}
 use Rattle.domains.specs.Nested.{is_limited_holder}

@@ -9,9 +9,9 @@ use Rattle.std.proofs.Math.Bool.{and_comm, or_comm}
 use Rattle.group_tree.specs.Names.{Name, same_name, is_among, begins}
 use Rattle.group_tree.specs.Places.{Place, Row, Inventory, path_of, row_path}
 use Rattle.group_tree.specs.Members.{holds, is_row_of}
-use Rattle.fleet_numbers.specs.NumberLists.{has_number, list_at}
-use Rattle.fleet_numbers.specs.Chains.{ends_before, IsNestedChain}
-use Rattle.fleet_numbers.proofs.SortedNamesLemmas.{same_name-true, is_among-sorted_names}
+use Rattle.fleet_index.specs.NumberLists.{has_number, list_at}
+use Rattle.fleet_index.specs.Chains.{ends_before, IsNestedChain}
+use Rattle.fleet_index.proofs.SortedNamesLemmas.{same_name-true, is_among-sorted_names}
 use Rattle.domains.specs.Starts.{place_at}
 use Rattle.domains.specs.Nested.{are_apart, is_crossing, IsNested}
 use Rattle.domains.specs.Numbered.{host_at}

@@ -1,7 +1,7 @@
 -- What is found, by names, is all that keeps an inventory from being a fleet.
 use Rattle.std.proofs.Common.{◌≡◌, ◌≢◌, ◌<◌, ◌≤◌, nat_lt, false, IfSome, Option, Some, List, [], ◌∷◌, take, get_or, length, map, if◌then◌else◌, refl, sym, ap, ◌∙◌, subst, arith}
 use Rattle.std.proofs.lemmas.Bool.{false_from_ne_true, lt-ltb, ltb-true}
-use Rattle.text_parts.specs.Breaches.{first_of}
+use Rattle.text_syntax.specs.Breaches.{first_of}
 use Rattle.group_tree.specs.Bounds.{group_names}
 use Rattle.group_tree.specs.Names.{Name}
 use Rattle.group_tree.specs.Places.{Inventory}

@@ -6,14 +6,14 @@ use Rattle.std.proofs.lemmas.Bool.{cases_lt, eq-eqb, eqb-true, false_from_ne_tru
 use Rattle.std.proofs.lemmas.List.{flat_map_more, length-map, map_more}
 use Rattle.std.proofs.lemmas.List.Folds.{list_any_at}
 use Rattle.std.proofs.lemmas.List.FromFn.{get_or-range_with_len, length-range_with_len}
-use Rattle.text_parts.specs.Breaches.{unless}
-use Rattle.text_parts.proofs.BreachLaws.{kept, no_first, no_second}
+use Rattle.text_syntax.specs.Breaches.{unless}
+use Rattle.text_syntax.proofs.BreachLaws.{kept, no_first, no_second}
 use Rattle.group_tree.specs.Names.{Name}
 use Rattle.group_tree.specs.Places.{Inventory}
 use Rattle.group_tree.specs.declared.ids.GroupId.{GroupId}
-use Rattle.fleet_numbers.specs.Chains.{ends_before, IsNestedChain}
-use Rattle.fleet_numbers.specs.NumberLists.{has_number, list_at}
-use Rattle.fleet_numbers.proofs.NumberLemmas.{range_more}
+use Rattle.fleet_index.specs.Chains.{ends_before, IsNestedChain}
+use Rattle.fleet_index.specs.NumberLists.{has_number, list_at}
+use Rattle.fleet_index.proofs.NumberLemmas.{range_more}
 use Rattle.domains.specs.FleetViews.{off_count}
 use Rattle.domains.specs.Findings.{all_crossings, all_findings, all_overs, are_crossing, crossing_if, crossings_among, crossings_in, crossings_with, each_pair, findings, over_by}
 use Rattle.domains.specs.Ids.{group_numbers}

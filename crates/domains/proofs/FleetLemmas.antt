@@ -13,11 +13,11 @@ use Rattle.group_tree.specs.Places.{Place, Inventory, is_preorder}
 use Rattle.group_tree.specs.Members.{holds}
 use Rattle.group_tree.specs.Bounds.{group_names}
 use Rattle.group_tree.specs.DownLimits.{Limit}
-use Rattle.fleet_numbers.specs.NumberLists.{has_number, list_at, numbers_where, last_where, IsRising}
-use Rattle.fleet_numbers.specs.GroupPaths.{is_member}
-use Rattle.fleet_numbers.specs.Chains.{is_limited, ends_before}
-use Rattle.fleet_numbers.proofs.RisingLemmas.{has_number-numbers_where}
-use Rattle.fleet_numbers.proofs.PathLemmas.{last_where-is, on_own, on_through}
+use Rattle.fleet_index.specs.NumberLists.{has_number, list_at, numbers_where, last_where, IsRising}
+use Rattle.fleet_index.specs.GroupPaths.{is_member}
+use Rattle.fleet_index.specs.Chains.{is_limited, ends_before}
+use Rattle.fleet_index.proofs.RisingLemmas.{has_number-numbers_where}
+use Rattle.fleet_index.proofs.PathLemmas.{last_where-is, on_own, on_through}
 use Rattle.domains.specs.Starts.{place_at, nowhere, member_count, allowed_of}
 use Rattle.domains.specs.FleetLists.{allowed_counts}
 use Rattle.domains.specs.Nested.{are_apart}

@@ -3,9 +3,9 @@ use Rattle.std.proofs.Common.{◌≡◌, ℕ, ◌≤◌, ◌<◌, Bool, true, Op
 use Rattle.std.specs.List.Sorted.{IsStrictlySortedBy}
 use Rattle.group_tree.specs.Names.{Name}
 use Rattle.group_tree.specs.Places.{Inventory}
-use Rattle.fleet_numbers.specs.SortedNames.{name_cmp}
-use Rattle.fleet_numbers.specs.NumberLists.{has_number, list_at, IsRising}
-use Rattle.fleet_numbers.specs.Chains.{is_limited, ends_before}
+use Rattle.fleet_index.specs.SortedNames.{name_cmp}
+use Rattle.fleet_index.specs.NumberLists.{has_number, list_at, IsRising}
+use Rattle.fleet_index.specs.Chains.{is_limited, ends_before}
 use Rattle.domains.specs.Hosts.{hosts_of, is_off}
 use Rattle.domains.specs.Starts.{place_at, allowed_of}
 use Rattle.domains.specs.Nested.{are_apart}

@@ -4,8 +4,8 @@ use Rattle.std.proofs.Math.Bool.{or-true, or-false}
 use Rattle.std.proofs.lemmas.List.{map-append}
 use Rattle.std.proofs.lemmas.List.Folds.{list_any-append, list_any_at}
 use Rattle.group_tree.specs.Names.{Name, same_name, is_among}
-use Rattle.fleet_numbers.specs.SortedNames.{sorted_names}
-use Rattle.fleet_numbers.proofs.SortedNamesLemmas.{same_rising, is_rising-sorted_names, is_among-sorted_names}
+use Rattle.fleet_index.specs.SortedNames.{sorted_names}
+use Rattle.fleet_index.proofs.SortedNamesLemmas.{same_rising, is_rising-sorted_names, is_among-sorted_names}
 
 -- names as they are lent
 abbrev pub lent_names : List (Bor Name) → List Name

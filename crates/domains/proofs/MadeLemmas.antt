@@ -5,10 +5,10 @@ use Rattle.std.proofs.lemmas.Bool.{and_parts, lt-ltb, ltb-true}
 use Rattle.std.proofs.lemmas.List.FromFn.{length-range_with_len, length-map-range_with_len, get_or-map-range_with_len}
 use Rattle.std.proofs.lemmas.List.Sums.{length-filter, count_by-le-length}
 use Rattle.group_tree.specs.DownLimits.{Limit}
-use Rattle.fleet_numbers.specs.NumberLists.{numbers_where, are_below, IsRising}
-use Rattle.fleet_numbers.specs.GroupPaths.{paths_from}
-use Rattle.fleet_numbers.specs.Chains.{is_limited}
-use Rattle.fleet_numbers.proofs.PathLemmas.{length-paths_from, paths_below}
+use Rattle.fleet_index.specs.NumberLists.{numbers_where, are_below, IsRising}
+use Rattle.fleet_index.specs.GroupPaths.{paths_from}
+use Rattle.fleet_index.specs.Chains.{is_limited}
+use Rattle.fleet_index.proofs.PathLemmas.{length-paths_from, paths_below}
 use Rattle.domains.specs.FleetLists.{AreFleetLists, allowed_counts, parent_on}
 use Rattle.domains.proofs.ByNumber.{held_lists, member_lists, end_lists}
 use Rattle.domains.proofs.WhereLemmas.{rising-numbers_where}

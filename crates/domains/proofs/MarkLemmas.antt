@@ -6,9 +6,9 @@ use Rattle.std.proofs.lemmas.List.{get_or-set_same, get_or-set_other, get_or_def
 use Rattle.std.proofs.lemmas.List.Folds.{list_any_at}
 use Rattle.std.proofs.Math.Bool.{or-false}
 use Rattle.group_tree.specs.Names.{Name, same_name, is_among}
-use Rattle.fleet_numbers.specs.NumberLists.{has_number, list_at, numbers_where, IsRising}
-use Rattle.fleet_numbers.proofs.SortedNamesLemmas.{same_name-itself}
-use Rattle.fleet_numbers.proofs.RisingLemmas.{Ascends-rising, has_number-within, below_at, are_below-rising}
+use Rattle.fleet_index.specs.NumberLists.{has_number, list_at, numbers_where, IsRising}
+use Rattle.fleet_index.proofs.SortedNamesLemmas.{same_name-itself}
+use Rattle.fleet_index.proofs.RisingLemmas.{Ascends-rising, has_number-within, below_at, are_below-rising}
 use Rattle.domains.specs.Numbered.{host_at}
 use Rattle.domains.specs.FleetViews.{FleetView}
 use Rattle.domains.specs.Patterns.{AreFlags, is_meant, is_named_by, names_nothing}

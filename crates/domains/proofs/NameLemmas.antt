@@ -10,7 +10,7 @@ use Rattle.std.proofs.lemmas.List.Folds.{list_any_none}
 use Rattle.std.proofs.lemmas.List.Quantifiers.{position-Some}
 use Rattle.std.proofs.lemmas.List.Sums.{fails_before_first}
 use Rattle.group_tree.specs.Names.{Name, same_name, is_among, are_distinct}
-use Rattle.fleet_numbers.proofs.SortedNamesLemmas.{same_name-true, same_name-itself}
+use Rattle.fleet_index.proofs.SortedNamesLemmas.{same_name-true, same_name-itself}
 use Rattle.indexmap.specs.IndexSet.{insert_key}
 use Rattle.domains.proofs.BeginLemmas.{distinct_at}
 use Rattle.group_tree.proofs.MemberLemmas.{list_any-map}

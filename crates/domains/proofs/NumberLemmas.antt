@@ -17,9 +17,9 @@ use Rattle.group_tree.specs.Subtrees.{Host, Subtree}
 use Rattle.group_tree.specs.Members.{holds}
 use Rattle.group_tree.specs.Variables.{value_of}
 use Rattle.group_tree.proofs.MemberLemmas.{list_any-map}
-use Rattle.fleet_numbers.specs.SortedNames.{name_cmp}
-use Rattle.fleet_numbers.specs.GroupPaths.{is_member}
-use Rattle.fleet_numbers.proofs.SortedNamesLemmas.{same_name-true, same_name-itself}
+use Rattle.fleet_index.specs.SortedNames.{name_cmp}
+use Rattle.fleet_index.specs.GroupPaths.{is_member}
+use Rattle.fleet_index.proofs.SortedNamesLemmas.{same_name-true, same_name-itself}
 use Rattle.domains.specs.Walks.{PlacedGroup, place_of, row_at, own_rows, rows_from}
 use Rattle.domains.specs.Hosts.{truth_of, down, last_down, last_down_of}
 use Rattle.domains.specs.Starts.{place_at, nowhere}

@@ -8,9 +8,9 @@ use Rattle.group_tree.specs.Names.{Name, are_distinct}
 use Rattle.group_tree.specs.Places.{Place, Row, Inventory, is_preorder}
 use Rattle.group_tree.specs.Bounds.{group_names}
 use Rattle.group_tree.specs.DownLimits.{Limit}
-use Rattle.fleet_numbers.specs.SortedNames.{name_cmp}
-use Rattle.fleet_numbers.specs.GroupPaths.{is_member}
-use Rattle.fleet_numbers.proofs.SortedNamesLemmas.{is_rising-sorted_names}
+use Rattle.fleet_index.specs.SortedNames.{name_cmp}
+use Rattle.fleet_index.specs.GroupPaths.{is_member}
+use Rattle.fleet_index.proofs.SortedNamesLemmas.{is_rising-sorted_names}
 use Rattle.domains.specs.Starts.{place_at, nowhere}
 use Rattle.domains.specs.Numbered.{IsNumbering}
 use Rattle.domains.proofs.ByNumber.{paths_of, holds_at}

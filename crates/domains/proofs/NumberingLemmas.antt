@@ -11,8 +11,8 @@ use Rattle.group_tree.specs.Places.{Place, Row, Inventory}
 use Rattle.group_tree.specs.Subtrees.{Host, Subtree}
 use Rattle.group_tree.specs.Bounds.{group_names}
 use Rattle.group_tree.specs.DownLimits.{Limit}
-use Rattle.fleet_numbers.specs.SortedNames.{name_cmp, sorted_names}
-use Rattle.fleet_numbers.proofs.SortedNamesLemmas.{is_rising-sorted_names}
+use Rattle.fleet_index.specs.SortedNames.{name_cmp, sorted_names}
+use Rattle.fleet_index.proofs.SortedNamesLemmas.{is_rising-sorted_names}
 use Rattle.domains.specs.Walks.{PlacedGroup, place_of, with_depth, IsWalkOf, rows_from}
 use Rattle.domains.specs.Hosts.{last_down, last_down_of, is_off}
 use Rattle.domains.specs.Numbered.{host_at, host_and_path, named_row, IsNumbering}

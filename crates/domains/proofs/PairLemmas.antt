@@ -7,7 +7,7 @@ use Rattle.std.proofs.lemmas.Nat.{mul-add-lt, same_from_place}
 use Rattle.std.proofs.lemmas.List.{map-append}
 use Rattle.std.proofs.lemmas.List.Elements.{filter-append}
 use Rattle.std.proofs.lemmas.List.Folds.{list_any-append}
-use Rattle.text_parts.specs.Breaches.{unless}
+use Rattle.text_syntax.specs.Breaches.{unless}
 use Rattle.domains.specs.Findings.{crossing_if, each_pair, is_same_pair}
 use Rattle.domains.specs.Search.{AreSeen, has_pair}
 use Rattle.domains.specs.declared.finding.Crossing.{Crossing}

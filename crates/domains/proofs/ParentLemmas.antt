@@ -7,8 +7,8 @@ use Rattle.std.proofs.lemmas.List.Folds.{list_any_at}
 use Rattle.group_tree.specs.Names.{Name, are_distinct, begins}
 use Rattle.group_tree.specs.Places.{Place, is_preorder}
 use Rattle.group_tree.specs.Bounds.{group_names}
-use Rattle.fleet_numbers.proofs.RisingLemmas.{Ascends, has_number-within}
-use Rattle.fleet_numbers.proofs.PathLemmas.{path_to, first_path, path_next, path_ascends}
+use Rattle.fleet_index.proofs.RisingLemmas.{Ascends, has_number-within}
+use Rattle.fleet_index.proofs.PathLemmas.{path_to, first_path, path_next, path_ascends}
 use Rattle.domains.specs.Starts.{place_at}
 use Rattle.domains.specs.Nested.{are_apart}
 use Rattle.domains.specs.FleetLists.{parent_on}

@@ -7,10 +7,10 @@ use Rattle.std.proofs.lemmas.List.Folds.{list_any-append}
 use Rattle.group_tree.specs.Names.{Name, same_name, is_among, are_distinct, begins}
 use Rattle.group_tree.specs.Places.{Place, path_of, goes_on, is_preorder}
 use Rattle.group_tree.specs.Bounds.{group_names}
-use Rattle.fleet_numbers.specs.NumberLists.{has_number, last_where}
-use Rattle.fleet_numbers.proofs.SortedNamesLemmas.{same_name-true, same_name-itself}
-use Rattle.fleet_numbers.proofs.RisingLemmas.{Ascends, has_number-within}
-use Rattle.fleet_numbers.proofs.PathLemmas.{first_path, path_next, path_ascends, on_before, on_within, on_path-last, Ascends-take}
+use Rattle.fleet_index.specs.NumberLists.{has_number, last_where}
+use Rattle.fleet_index.proofs.SortedNamesLemmas.{same_name-true, same_name-itself}
+use Rattle.fleet_index.proofs.RisingLemmas.{Ascends, has_number-within}
+use Rattle.fleet_index.proofs.PathLemmas.{first_path, path_next, path_ascends, on_before, on_within, on_path-last, Ascends-take}
 use Rattle.domains.specs.Starts.{place_at, nowhere}
 use Rattle.domains.specs.Nested.{are_apart}
 use Rattle.domains.proofs.ByNumber.{group_name, names_to, names_above, depths_of, path_at, is_above}

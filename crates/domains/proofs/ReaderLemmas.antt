@@ -10,15 +10,15 @@ use Rattle.std.proofs.lemmas.List.Folds.{list_any_at}
 use Rattle.std.proofs.lemmas.List.FromFn.{length-range_with_len, get_or-range_with_len}
 use Rattle.std.proofs.lemmas.List.Recursion.{or_from_places}
 use Rattle.std.proofs.lemmas.List.Sorted.{searched, Contains-permutation, length_permutation}
-use Rattle.fleet_numbers.specs.NumberLists.{list_at, has_number, IsRising}
-use Rattle.fleet_numbers.specs.DealOrder.{ArePlacesOf}
+use Rattle.fleet_index.specs.NumberLists.{list_at, has_number, IsRising}
+use Rattle.fleet_index.specs.DealOrder.{ArePlacesOf}
 use Rattle.group_tree.specs.declared.ids.HostId.{HostId}
-use Rattle.fleet_numbers.proofs.RisingLemmas.{ascends_le}
-use Rattle.fleet_numbers.proofs.RisingLemmas.{Ascends-rising}
-use Rattle.fleet_numbers.proofs.DealLemmas.{in_range}
-use Rattle.fleet_numbers.proofs.ListLemmas.{lent_list}
+use Rattle.fleet_index.proofs.RisingLemmas.{ascends_le}
+use Rattle.fleet_index.proofs.RisingLemmas.{Ascends-rising}
+use Rattle.fleet_index.proofs.DealLemmas.{in_range}
+use Rattle.fleet_index.proofs.ListLemmas.{lent_list}
 use Rattle.group_tree.specs.declared.ids.GroupId.{GroupId}
-use Rattle.fleet_numbers.specs.Ids.{lists_by}
+use Rattle.fleet_index.specs.Ids.{lists_by}
 use Rattle.domains.specs.Ids.{host_numbers, group_numbers}
 use Rattle.domains.specs.FleetViews.{FleetView, IsSound}
 use Rattle.domains.specs.Inside.{shown, IsConsistent}

@@ -5,10 +5,10 @@ use Rattle.std.proofs.lemmas.List.{get_or_past, length-map}
 use Rattle.std.proofs.Math.Bool.{and-false}
 use Rattle.group_tree.specs.Names.{Name}
 use Rattle.group_tree.specs.Places.{Place, Inventory}
-use Rattle.fleet_numbers.specs.NumberLists.{has_number, list_at, last_where}
-use Rattle.fleet_numbers.specs.Chains.{is_limited, IsNestedChain}
-use Rattle.fleet_numbers.proofs.RisingLemmas.{has_number-numbers_where}
-use Rattle.fleet_numbers.proofs.PathLemmas.{on_path-last}
+use Rattle.fleet_index.specs.NumberLists.{has_number, list_at, last_where}
+use Rattle.fleet_index.specs.Chains.{is_limited, IsNestedChain}
+use Rattle.fleet_index.proofs.RisingLemmas.{has_number-numbers_where}
+use Rattle.fleet_index.proofs.PathLemmas.{on_path-last}
 use Rattle.domains.specs.Starts.{exceeds}
 use Rattle.domains.specs.FleetViews.{AreAmong}
 use Rattle.domains.proofs.ByNumber.{depths_of, is_above, holds_at}

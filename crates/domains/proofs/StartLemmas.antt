@@ -8,7 +8,7 @@ use Rattle.std.proofs.Math.Nat.{zero-add}
 use Rattle.group_tree.specs.Names.{Name}
 use Rattle.group_tree.specs.Places.{Place, Inventory}
 use Rattle.group_tree.specs.Members.{holds}
-use Rattle.fleet_numbers.specs.NumberLists.{list_at}
+use Rattle.fleet_index.specs.NumberLists.{list_at}
 use Rattle.domains.specs.Hosts.{is_off}
 use Rattle.domains.specs.Starts.{place_at, nowhere, allowed_of, exceeds, hosts_off, starts_over, StartsWithin}
 use Rattle.domains.specs.Numbered.{host_at}

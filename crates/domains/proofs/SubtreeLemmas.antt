@@ -4,11 +4,11 @@ use Rattle.std.proofs.Common.{◌∙◌, refl, subst, arith, sub-one, inl, inr, 
 use Rattle.std.proofs.lemmas.Bool.{cases_lt, eq-eqb, false≢true}
 use Rattle.std.proofs.lemmas.List.{get_or-map, get_or_append_left, get_or_past, length-append, length-map}
 use Rattle.std.proofs.lemmas.List.Folds.{list_any_at}
-use Rattle.fleet_numbers.specs.NumberLists.{has_number, list_at}
-use Rattle.fleet_numbers.specs.GroupPaths.{paths_from}
-use Rattle.fleet_numbers.proofs.RisingLemmas.{Ascends, has_number-within}
-use Rattle.fleet_numbers.proofs.PathLemmas.{on_path, on_own, on_run, on_next, on_within, on_through, first_path, path_next, path_ascends, Ascends-take, length-paths_from}
-use Rattle.fleet_numbers.proofs.ChainLemmas.{last_greatest}
+use Rattle.fleet_index.specs.NumberLists.{has_number, list_at}
+use Rattle.fleet_index.specs.GroupPaths.{paths_from}
+use Rattle.fleet_index.proofs.RisingLemmas.{Ascends, has_number-within}
+use Rattle.fleet_index.proofs.PathLemmas.{on_path, on_own, on_run, on_next, on_within, on_through, first_path, path_next, path_ascends, Ascends-take, length-paths_from}
+use Rattle.fleet_index.proofs.ChainLemmas.{last_greatest}
 use Rattle.domains.specs.FleetLists.{parent_on}
 use Rattle.domains.specs.FleetViews.{IsInSubtree}
 

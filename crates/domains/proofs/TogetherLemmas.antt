@@ -6,13 +6,13 @@ use Rattle.std.proofs.lemmas.Bool.{cases_order, eq-eqb, false≢true, and_parts,
 use Rattle.std.proofs.lemmas.List.{length-map}
 use Rattle.group_tree.specs.Names.{Name}
 use Rattle.group_tree.specs.Places.{Place, Inventory}
-use Rattle.fleet_numbers.specs.NumberLists.{has_number, list_at, last_where}
-use Rattle.fleet_numbers.specs.Chains.{is_limited, IsNestedChain}
-use Rattle.fleet_numbers.proofs.RisingLemmas.{Ascends, Ascends-numbers_where, has_number-numbers_where}
-use Rattle.fleet_numbers.proofs.PathLemmas.{on_path-last}
-use Rattle.fleet_numbers.proofs.ChainLemmas.{last_greatest}
-use Rattle.fleet_numbers.proofs.DealLemmas.{in_range}
-use Rattle.fleet_numbers.specs.DealOrder.{deal_key, key_at, IsDealt}
+use Rattle.fleet_index.specs.NumberLists.{has_number, list_at, last_where}
+use Rattle.fleet_index.specs.Chains.{is_limited, IsNestedChain}
+use Rattle.fleet_index.proofs.RisingLemmas.{Ascends, Ascends-numbers_where, has_number-numbers_where}
+use Rattle.fleet_index.proofs.PathLemmas.{on_path-last}
+use Rattle.fleet_index.proofs.ChainLemmas.{last_greatest}
+use Rattle.fleet_index.proofs.DealLemmas.{in_range}
+use Rattle.fleet_index.specs.DealOrder.{deal_key, key_at, IsDealt}
 use Rattle.std.proofs.lemmas.List.Folds.{list_any_at}
 use Rattle.domains.specs.Starts.{place_at}
 use Rattle.domains.specs.Numbered.{host_at}

@@ -9,10 +9,10 @@ use Rattle.std.proofs.lemmas.List.Sorted.{length_permutation}
 use Rattle.group_tree.specs.Names.{Name, same_name, are_distinct}
 use Rattle.group_tree.specs.Places.{Place, Inventory, path_of}
 use Rattle.group_tree.specs.Bounds.{group_names}
-use Rattle.fleet_numbers.specs.NumberLists.{list_at}
-use Rattle.fleet_numbers.specs.DealOrder.{deal_key, IsDealt}
-use Rattle.fleet_numbers.proofs.DealLemmas as deals
-use Rattle.fleet_numbers.proofs.SortedNamesLemmas.{same_name-itself}
+use Rattle.fleet_index.specs.NumberLists.{list_at}
+use Rattle.fleet_index.specs.DealOrder.{deal_key, IsDealt}
+use Rattle.fleet_index.proofs.DealLemmas as deals
+use Rattle.fleet_index.proofs.SortedNamesLemmas.{same_name-itself}
 use Rattle.domains.specs.Hosts.{is_off}
 use Rattle.domains.specs.Starts.{place_at, nowhere}
 use Rattle.domains.specs.Members.{members_of, chains_of}

@@ -4,8 +4,8 @@ use Rattle.std.specs.List.{range_with_len}
 use Rattle.std.proofs.lemmas.Bool.{lt-ltb}
 use Rattle.std.proofs.Math.Nat.{add-zero}
 use Rattle.group_tree.specs.Names.{Name}
-use Rattle.fleet_numbers.specs.NumberLists.{has_number, numbers_where, IsRising}
-use Rattle.fleet_numbers.proofs.RisingLemmas.{Ascends-numbers_where, rising_is, has_number-numbers_where}
+use Rattle.fleet_index.specs.NumberLists.{has_number, numbers_where, IsRising}
+use Rattle.fleet_index.proofs.RisingLemmas.{Ascends-numbers_where, rising_is, has_number-numbers_where}
 use Rattle.domains.specs.Numbered.{host_at}
 
 -- tests that agree below the end give the same numbers

@@ -1,6 +1,6 @@
 -- Why an inventory is no fleet.
 use Rattle.std.specs.Prelude.{◌≡◌, ℕ, ◌-◌, nat_lt, IfSome, Some, List, [], ◌∷◌, length, map, take, if◌then◌else◌}
-use Rattle.text_parts.specs.Breaches.{first_of}
+use Rattle.text_syntax.specs.Breaches.{first_of}
 use Rattle.group_tree.specs.Bounds.{group_names}
 use Rattle.group_tree.specs.Places.{Inventory}
 use Rattle.domains.specs.Breaches.{Breach, TooManyHosts, breach_of, named}

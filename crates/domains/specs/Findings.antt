@@ -1,9 +1,9 @@
 -- What keeps an inventory from being a fleet, by the numbers of its hosts and groups.
 use Rattle.std.specs.Prelude.{ℕ, Bool, not, ◌&&◌, nat_eq, nat_lt, cond, Option, None, Some, List, [], ◌∷◌, map, filter, length}
 use Rattle.std.specs.List.{flat_map, range_with_len}
-use Rattle.text_parts.specs.Breaches.{unless}
+use Rattle.text_syntax.specs.Breaches.{unless}
 use Rattle.group_tree.specs.Places.{Place, Inventory}
-use Rattle.fleet_numbers.specs.NumberLists.{list_at}
+use Rattle.fleet_index.specs.NumberLists.{list_at}
 use Rattle.domains.specs.Hosts.{hosts_of}
 use Rattle.domains.specs.Starts.{place_at, allowed_of, hosts_off}
 use Rattle.domains.specs.Nested.{are_apart}

@@ -2,9 +2,9 @@
 use Rattle.std.specs.Prelude.{◌≡◌, ℕ, Option, None, Some, List, [], ◌∷◌, map, filter, length, option_map, slice_index_or}
 use Rattle.std.specs.List.{range_with_len}
 use Rattle.group_tree.specs.DownLimits.{Limit, allowed}
-use Rattle.fleet_numbers.specs.NumberLists.{has_number, list_at, numbers_where, last_where}
-use Rattle.fleet_numbers.specs.GroupPaths.{paths_from, is_member}
-use Rattle.fleet_numbers.specs.Chains.{is_limited}
+use Rattle.fleet_index.specs.NumberLists.{has_number, list_at, numbers_where, last_where}
+use Rattle.fleet_index.specs.GroupPaths.{paths_from, is_member}
+use Rattle.fleet_index.specs.Chains.{is_limited}
 
 -- the group before the last on a path, and none where the path has one group alone
 abbrev pub parent_on : List ℕ → Option ℕ

@@ -3,10 +3,10 @@ use Rattle.std.specs.Prelude.{◌≡◌, ℕ, ◌<◌, ◌≤◌, Bool, true, fa
 use Rattle.std.specs.List.{range_with_len}
 use Rattle.std.specs.List.Sorted.{IsStrictlySortedBy}
 use Rattle.group_tree.specs.Names.{Name, are_distinct}
-use Rattle.fleet_numbers.specs.SortedNames.{name_cmp}
-use Rattle.fleet_numbers.specs.NumberLists.{list_at, has_number, IsRising}
-use Rattle.fleet_numbers.specs.Chains.{is_limited}
-use Rattle.fleet_numbers.specs.DealOrder.{IsDealt}
+use Rattle.fleet_index.specs.SortedNames.{name_cmp}
+use Rattle.fleet_index.specs.NumberLists.{list_at, has_number, IsRising}
+use Rattle.fleet_index.specs.Chains.{is_limited}
+use Rattle.fleet_index.specs.DealOrder.{IsDealt}
 
 -- a limit is how many of the group's hosts may be down at once; a chain is a host's limited groups; an order is that of dealing
 pub record FleetView : Type 0 where

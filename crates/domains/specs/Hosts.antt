@@ -6,7 +6,7 @@ use Rattle.group_tree.specs.Variables.{Scalar, Text, Int, Truth, value_of}
 use Rattle.group_tree.specs.Places.{Row, Inventory}
 use Rattle.group_tree.specs.Members.{is_of}
 use Rattle.group_tree.specs.Subtrees.{Host}
-use Rattle.fleet_numbers.specs.SortedNames.{sorted_names}
+use Rattle.fleet_index.specs.SortedNames.{sorted_names}
 
 -- the names of all hosts, each once, in the order of their bytes
 abbrev pub hosts_of : Inventory → List Name

@@ -1,7 +1,7 @@
 -- What is kept of a fleet inside its type, and how contracts show it.
 use Rattle.std.specs.Prelude.{map}
 use Rattle.std.specs.String.{string_bytes}
-use Rattle.fleet_numbers.specs.DealOrder.{ArePlacesOf}
+use Rattle.fleet_index.specs.DealOrder.{ArePlacesOf}
 use Rattle.domains.specs.Ids.{host_numbers, host_lists, group_lists}
 use Rattle.domains.specs.FleetViews.{FleetView, IsSound}
 use Rattle.domains.specs.declared.fleet.Fleet.TheInside.{Inside}

@@ -3,7 +3,7 @@ use Rattle.std.specs.Prelude.{ℕ, List, map, length}
 use Rattle.group_tree.specs.Names.{Name}
 use Rattle.group_tree.specs.Places.{Place, Inventory}
 use Rattle.group_tree.specs.Members.{holds}
-use Rattle.fleet_numbers.specs.NumberLists.{numbers_where}
+use Rattle.fleet_index.specs.NumberLists.{numbers_where}
 use Rattle.domains.specs.Starts.{place_at}
 use Rattle.domains.specs.Nested.{is_limited_holder}
 use Rattle.domains.specs.Numbered.{host_at}

@@ -3,7 +3,7 @@ use Rattle.std.specs.Prelude.{◌≡◌, ℕ, Bool, true, false, not, ◌||◌, 
 use Rattle.std.specs.List.{list_any, find}
 use Rattle.std.specs.String.{string_bytes}
 use Rattle.group_tree.specs.Names.{Name, same_name, is_among}
-use Rattle.fleet_numbers.specs.NumberLists.{list_at, has_number, numbers_where}
+use Rattle.fleet_index.specs.NumberLists.{list_at, has_number, numbers_where}
 use Rattle.domains.specs.Numbered.{host_at}
 use Rattle.domains.specs.FleetViews.{FleetView}
 use Rattle.domains.specs.declared.pattern_fault.PatternFault.{PatternFault}

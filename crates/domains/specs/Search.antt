@@ -1,8 +1,8 @@
 -- What a search finds, by the numbers of hosts and groups.
 use Rattle.std.specs.Prelude.{◌≡◌, ℕ, ◌+◌, ◌*◌, ◌<◌, ◌&&◌, nat_eq, Bool, false, Option, None, List, length, map, slice_index_or}
 use Rattle.std.specs.List.{list_any}
-use Rattle.fleet_numbers.specs.NumberLists.{list_at}
-use Rattle.fleet_numbers.specs.Chains.{IsNestedChain}
+use Rattle.fleet_index.specs.NumberLists.{list_at}
+use Rattle.fleet_index.specs.Chains.{IsNestedChain}
 use Rattle.domains.specs.Starts.{exceeds}
 use Rattle.domains.specs.FleetViews.{off_count}
 use Rattle.domains.specs.Findings.{each_pair, overs_until}

@@ -1,7 +1,7 @@
 //! The pairs of limited groups that cross, each with the first of its hosts.
 ghost use Rattle.std.specs.Prelude.{◌≡◌, ℕ, ◌*◌, ◌^◌, ◌<◌, ◌||◌, ◌++◌, [], false, nat_eq, length, map, slice_index_or, All, IfOk, IsTrue, List, OnOk};
-ghost use Rattle.fleet_numbers.specs.Chains.{ends_before};
-ghost use Rattle.fleet_numbers.specs.NumberLists.{IsRising};
+ghost use Rattle.fleet_index.specs.Chains.{ends_before};
+ghost use Rattle.fleet_index.specs.NumberLists.{IsRising};
 ghost use Rattle.domains.specs.Ids.{group_lists, group_numbers};
 ghost use Rattle.domains.specs.Findings.{crossing_if, crossings_among, crossings_in, crossings_with, each_pair};
 ghost use Rattle.domains.specs.Search.{AreChainsNested, AreSeen};
@@ -10,7 +10,7 @@ ghost use Rattle.domains.specs.declared.finding.Finding.TheVariants.{Nesting};
 
 use crate::finding::{Crossing, Finding};
 use crate::lists::chain_at;
-use fleet_numbers::first_crossing;
+use fleet_index::first_crossing;
 use group_tree::GroupId;
 use std::alloc::{AllocError, Global};
 

@@ -1,8 +1,8 @@
 //! A fleet: hosts, groups with their members, and how limits nest.
 ghost use Rattle.std.specs.Prelude.{◌≡◌, ◌≢◌, [], ℕ, List, IfOk, IfErr, IsTrue, All, IsPermutation, length};
 ghost use Rattle.std.specs.List.{range_with_len};
-ghost use Rattle.fleet_numbers.specs.NumberLists.{are_below};
-ghost use Rattle.fleet_numbers.specs.DealOrder.{numbered_bound, IsDealt};
+ghost use Rattle.fleet_index.specs.NumberLists.{are_below};
+ghost use Rattle.fleet_index.specs.DealOrder.{numbered_bound, IsDealt};
 ghost use Rattle.domains.specs.Ids.{group_lists, host_numbers};
 ghost use Rattle.domains.specs.FleetViews.{IsSound};
 ghost use Rattle.domains.specs.Fleets.{IsFleetOf};
@@ -16,7 +16,7 @@ use crate::faults::{FleetTold, find_all, tell};
 use crate::finding::Finding;
 use crate::lists::{FleetLists, make_lists};
 use crate::numbers::{Numbers, number_tree};
-use fleet_numbers::{list_deal_order, list_deal_places};
+use fleet_index::{list_deal_order, list_deal_places};
 use group_tree::{GroupId, HostId, Tree};
 use indexmap::IndexSet;
 use std::alloc::{AllocError, Allocator, Global};

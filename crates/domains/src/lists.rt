@@ -3,13 +3,13 @@ ghost use Rattle.std.specs.Prelude.{◌≡◌, ◌<◌, ◌≤◌, ◌^◌, IfOk
 ghost use Rattle.std.specs.String.{string_bytes};
 ghost use Rattle.group_tree.specs.DownLimits.{allowed};
 ghost use Rattle.group_tree.specs.Limits.{limit_of};
-ghost use Rattle.fleet_numbers.specs.NumberLists.{list_at};
+ghost use Rattle.fleet_index.specs.NumberLists.{list_at};
 ghost use Rattle.domains.specs.Ids.{group_lists, group_numbers, host_lists, host_numbers};
 ghost use Rattle.domains.specs.FleetLists.{allowed_counts, parent_on};
 ghost use Rattle.domains.specs.Outcomes.{AreListsFrom};
 
 use crate::numbers::Numbers;
-use fleet_numbers::{
+use fleet_index::{
     NumberLists, list_chains, list_held, list_hosts_by_group, list_paths, list_subtree_ends,
 };
 use group_tree::{GroupId, HostId, Limit};

@@ -1,8 +1,8 @@
 //! Flags of the hosts that names name.
 ghost use Rattle.std.specs.Prelude.{◌≡◌, ℕ, ◌<◌, ◌||◌, not, true, false, IfOk, IfErr, OnOk, All, None, length, slice_index_or};
 ghost use Rattle.std.specs.List.{list_any, find};
-ghost use Rattle.text_parts.specs.Patterns.{parts_of};
-ghost use Rattle.fleet_numbers.specs.NumberLists.{list_at, has_number};
+ghost use Rattle.text_syntax.specs.Patterns.{parts_of};
+ghost use Rattle.fleet_index.specs.NumberLists.{list_at, has_number};
 ghost use Rattle.domains.specs.Ids.{host_numbers};
 ghost use Rattle.domains.specs.Patterns.{AreFlags, IsPatternFault, is_named_by, names_nothing};
 
@@ -10,7 +10,7 @@ use crate::fleet::Fleet;
 use crate::pattern_fault::PatternFault;
 use group_tree::{GroupId, HostId};
 use std::alloc::{AllocError, Global};
-use text_parts::first_part;
+use text_syntax::first_part;
 
 /// The flags of groups spare a second walk over the hosts of a group that is named twice.
 #[derive(Drop)]

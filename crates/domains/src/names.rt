@@ -2,10 +2,10 @@
 ghost use Rattle.std.specs.Prelude.{◌≡◌, ℕ, List, ◌<◌, ◌||◌, IfOk, IfSome, IsTrue, OnOk, All, length, map, slice_index_or, []};
 ghost use Rattle.std.specs.String.{string_bytes};
 ghost use Rattle.group_tree.specs.Names.{Name, same_name, is_among};
-ghost use Rattle.fleet_numbers.specs.SortedNames.{sorted_names};
+ghost use Rattle.fleet_index.specs.SortedNames.{sorted_names};
 
 use crate::rows::HostRow;
-use fleet_numbers::{find_name_near, make_distinct};
+use fleet_index::{find_name_near, make_distinct};
 use std::alloc::{AllocError, Allocator, Global};
 
 fn own_names(alloc: Global, names: &[&str]) -> Result<Vec<String>, AllocError>

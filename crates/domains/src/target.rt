@@ -1,8 +1,8 @@
 //! The hosts that a pattern names.
 ghost use Rattle.std.specs.Prelude.{◌≡◌, ◌∷◌, ◌++◌, IfOk, IfErr, OnOk, None, [], cond, false, length, map, slice_index_or};
 ghost use Rattle.std.specs.List.{find};
-ghost use Rattle.text_parts.specs.Patterns.{parts_of};
-ghost use Rattle.fleet_numbers.specs.NumberLists.{numbers_where};
+ghost use Rattle.text_syntax.specs.Patterns.{parts_of};
+ghost use Rattle.fleet_index.specs.NumberLists.{numbers_where};
 ghost use Rattle.domains.specs.Patterns.{IsPatternFault, named_hosts, names_nothing};
 
 use crate::fleet::Fleet;

@@ -4,13 +4,13 @@ use Rattle.std.specs.List.{list_all}
 use Rattle.std.proofs.lemmas.List.Folds.{list_all_more, list_any_at, list_any_none}
 use Rattle.group_tree.specs.declared.ids.HostId.{HostId}
 use Rattle.domains.specs.Ids.{host_numbers}
-use Rattle.fleet_numbers.specs.NumberLists.{has_number}
+use Rattle.fleet_index.specs.NumberLists.{has_number}
 use Rattle.fleet_states.specs.declared.status.Status.{Status}
 use Rattle.fleet_states.specs.declared.status.Status.TheVariants.{Held}
 use Rattle.fleet_states.specs.Statuses.{are_ready, changed, is_waiting, status_at}
-use Rattle.fleet_states.specs.Groups.{FleetGroup, Fits, is_full_for, no_group, is_stuck}
+use Rattle.fleet_states.specs.Groups.{FleetGroup, Fits, is_full_for, no_group, lacks_room}
 use Rattle.fleet_states.proofs.HostLemmas.{length-host_numbers, number_of_host}
-use Rattle.fleet_numbers.proofs.NumberLemmas.{distinct_fresh, number_at}
+use Rattle.fleet_index.proofs.NumberLemmas.{distinct_fresh, number_at}
 use Rattle.fleet_states.proofs.ReadyLemmas.{ready_waits}
 use Rattle.fleet_states.proofs.StatusLemmas.{status_at-changed, waiting_within}
 use Rattle.down_ledger.specs.Unfit.{IsFirstFull, IsFirstWithRoom}
@@ -18,10 +18,10 @@ use Rattle.down_ledger.proofs.OpeningLemmas.{ready_distinct}
 
 -- what the groups tell of one host
 module _ (groups : List FleetGroup) (statuses : List Status) (host : ℕ) where
-  pub stuck_where_full : (group : ℕ) → IsFirstFull groups statuses (host ∷ []) group → is_stuck groups statuses host ≡ true
+  pub stuck_where_full : (group : ℕ) → IsFirstFull groups statuses (host ∷ []) group → lacks_room groups statuses host ≡ true
   stuck_where_full group full = list_any_at (is_full_for statuses (host ∷ [])) groups group no_group full.within full.full
 
-  pub room_where_fits : Fits groups statuses (host ∷ []) → is_stuck groups statuses host ≡ false
+  pub room_where_fits : Fits groups statuses (host ∷ []) → lacks_room groups statuses host ≡ false
   room_where_fits fits = list_any_none (is_full_for statuses (host ∷ [])) groups fits
 
 -- the host at a place of hosts that wait
@@ -44,14 +44,14 @@ module _ (statuses : List Status) (hosts : List HostId) (ready : are_ready statu
       ∙ ap (λ b. is_waiting (cond b Held (status_at statuses (get_or hosts i d).index))) fresh_here
       ∙ waits_here
 
-  module _ (groups : List FleetGroup) (before : list_all (is_stuck groups statuses) (take i (host_numbers hosts)) ≡ true) where
-    pub stuck_more : is_stuck groups statuses (get_or hosts i d).index ≡ true → list_all (is_stuck groups statuses) (take (i + 1) (host_numbers hosts)) ≡ true
+  module _ (groups : List FleetGroup) (before : list_all (lacks_room groups statuses) (take i (host_numbers hosts)) ≡ true) where
+    pub stuck_more : lacks_room groups statuses (get_or hosts i d).index ≡ true → list_all (lacks_room groups statuses) (take (i + 1) (host_numbers hosts)) ≡ true
     stuck_more stuck =
-        list_all_more (is_stuck groups statuses) (host_numbers hosts) i 0 inside
-        ∙ ap (λ b. b && is_stuck groups statuses (get_or (host_numbers hosts) i 0)) before
-        ∙ ap (is_stuck groups statuses) (number_of_host hosts i d within)
+        list_all_more (lacks_room groups statuses) (host_numbers hosts) i 0 inside
+        ∙ ap (λ b. b && lacks_room groups statuses (get_or (host_numbers hosts) i 0)) before
+        ∙ ap (lacks_room groups statuses) (number_of_host hosts i d within)
         ∙ stuck
 
-    pub first_with_room : is_stuck groups statuses (get_or hosts i d).index ≡ false → IsFirstWithRoom groups statuses (host_numbers hosts) (get_or hosts i d).index
+    pub first_with_room : lacks_room groups statuses (get_or hosts i d).index ≡ false → IsFirstWithRoom groups statuses (host_numbers hosts) (get_or hosts i d).index
     first_with_room room =
         record { place = i; inside = inside; names = number_of_host hosts i d within; before = before; room = room }

@@ -4,23 +4,23 @@ use Rattle.std.specs.List.{count_by, list_any}
 use Rattle.std.proofs.lemmas.List.Folds.{list_any_more}
 use Rattle.group_tree.specs.declared.ids.GroupId.{GroupId}
 use Rattle.domains.specs.Ids.{group_numbers}
-use Rattle.fleet_numbers.proofs.RisingLemmas.{Ascends, Ascends-rising, has_number-within}
+use Rattle.fleet_index.proofs.RisingLemmas.{Ascends, Ascends-rising, has_number-within}
 use Rattle.std.proofs.lemmas.List.{get_or_past, get_or-map, get_or-set_same, get_or-set_other, length-set, length-map, ext_get_or, get_or_default}
 use Rattle.std.proofs.lemmas.List.FromFn.{length-map-range_with_len, get_or-map-range_with_len, length-range_with_len}
 use Rattle.std.proofs.lemmas.List.Sums.{count_by-le-length, length-filter}
 use Rattle.std.proofs.lemmas.Bool.{both_ways, cases_lt, eqb-true, le-leb, le-ltb, lt-leb, lt-ltb, ltb-false, or_cases, or_left, or_right}
 use Rattle.std.specs.List.{range_with_len}
-use Rattle.fleet_numbers.specs.NumberLists.{bit, has_number, list_at, IsRising}
-use Rattle.fleet_numbers.specs.Chains.{is_limited}
+use Rattle.fleet_index.specs.NumberLists.{bit, has_number, list_at, IsRising}
+use Rattle.fleet_index.specs.Chains.{is_limited}
 use Rattle.domains.specs.FleetViews.{FleetView, IsSound}
 use Rattle.domains.specs.Starts.{exceeds}
 use Rattle.fleet_states.specs.declared.status.Status.{Status}
 use Rattle.fleet_states.specs.declared.status.Status.TheVariants.{Idle}
 use Rattle.fleet_states.specs.Statuses.{are_distinct, down_count, is_down, status_at}
 use Rattle.fleet_states.specs.Groups.{FleetGroup, IsSafe, groups_of, is_over}
-use Rattle.fleet_numbers.proofs.TestCounts.{count_agree, count_change, count_some}
+use Rattle.fleet_index.proofs.TestCounts.{count_agree, count_change, count_some}
 use Rattle.fleet_states.proofs.GroupLemmas.{length-groups_of, get_or-groups_of}
-use Rattle.fleet_numbers.proofs.NumberLemmas.{distinct_rising, none_passes, number_at}
+use Rattle.fleet_index.proofs.NumberLemmas.{distinct_rising, none_passes, number_at}
 use Rattle.fleet_states.proofs.SafetyLemmas.{exceeds_less}
 use Rattle.down_ledger.specs.Ledgers.{LedgerView, is_marked, down_in, is_full, ledger_of, with_mark, HasRoom, IsFirstFull, IsWithinLimits}
 use Rattle.down_ledger.specs.Inside.{IsCounted, limited_count, limited_counts}

@@ -6,7 +6,7 @@ use Rattle.std.proofs.lemmas.List.Folds.{list_any_more}
 use Rattle.std.proofs.Math.Bool.{or-false}
 use Rattle.std.proofs.lemmas.Bool.{and_from, and_parts, both_ways, cases_lt, eqb-true, lt-ltb, ltb-true, or_cases, or_left, or_right}
 use Rattle.group_tree.specs.declared.ids.HostId.{HostId}
-use Rattle.fleet_numbers.specs.NumberLists.{bit, has_number}
+use Rattle.fleet_index.specs.NumberLists.{bit, has_number}
 use Rattle.domains.specs.Ids.{host_numbers}
 use Rattle.domains.specs.FleetViews.{FleetView}
 use Rattle.domains.specs.Starts.{exceeds}
@@ -14,10 +14,10 @@ use Rattle.fleet_states.specs.declared.status.Status.{Status}
 use Rattle.fleet_states.specs.declared.status.Status.TheVariants.{Running, Waiting}
 use Rattle.fleet_states.specs.Statuses.{are_distinct, are_ready, changed, down_count, is_waiting, status_at}
 use Rattle.fleet_states.specs.Groups.{FleetGroup, Fits, IsSafe, group_at, is_full_for, members_among}
-use Rattle.fleet_numbers.proofs.TestCounts.{count_add, count_le}
+use Rattle.fleet_index.proofs.TestCounts.{count_add, count_le}
 use Rattle.fleet_states.proofs.DownLemmas.{down_count-opened}
 use Rattle.fleet_states.proofs.HostLemmas.{length-host_numbers, number_of_host}
-use Rattle.fleet_numbers.proofs.NumberLemmas.{distinct_fresh, has_other, has_own, number_at}
+use Rattle.fleet_index.proofs.NumberLemmas.{distinct_fresh, has_other, has_own, number_at}
 use Rattle.fleet_states.proofs.ReadyLemmas.{are_ready_more, given_back, ready_waits, waits_still}
 use Rattle.fleet_states.proofs.SafetyLemmas.{fits_from}
 use Rattle.down_ledger.specs.Rosters.{HasChanged, NobodyRests, RosterView, seated_at}

@@ -5,21 +5,21 @@ use Rattle.std.proofs.lemmas.List.{ext_get_or, get_or-set_same, get_or-set_other
 use Rattle.std.proofs.lemmas.Bool.{both_ways, cases_eq, cases_lt, eq-eqb, le-ltb, lt-ltb, ne_eqb}
 use Rattle.group_tree.specs.declared.ids.GroupId.{GroupId}
 use Rattle.group_tree.specs.declared.ids.HostId.{HostId}
-use Rattle.fleet_numbers.specs.NumberLists.{bit, has_number}
+use Rattle.fleet_index.specs.NumberLists.{bit, has_number}
 use Rattle.domains.specs.Ids.{host_numbers}
 use Rattle.domains.specs.FleetViews.{FleetView, IsSound}
 use Rattle.fleet_states.specs.declared.status.Status.{Status}
 use Rattle.fleet_states.specs.Statuses.{are_distinct, changed, down_count, is_down, is_waiting, status_at}
 use Rattle.std.specs.List.{count_by}
-use Rattle.fleet_numbers.proofs.RisingLemmas.{are_below-rising}
+use Rattle.fleet_index.proofs.RisingLemmas.{are_below-rising}
 use Rattle.fleet_states.specs.Groups.{FleetGroup, Fits, IsSafe, group_at, groups_of, is_full_for, is_over, no_group, room}
-use Rattle.fleet_numbers.proofs.TestCounts.{count_change, count_none}
+use Rattle.fleet_index.proofs.TestCounts.{count_change, count_none}
 use Rattle.down_ledger.specs.Unfit.{IsFirstFull}
 use Rattle.fleet_states.proofs.GroupLemmas.{get_or-groups_of, group_of, length-groups_of}
-use Rattle.fleet_numbers.specs.NumberLists.{list_at}
+use Rattle.fleet_index.specs.NumberLists.{list_at}
 use Rattle.domains.specs.Starts.{exceeds}
 use Rattle.fleet_states.proofs.HostLemmas.{length-host_numbers, number_of_host}
-use Rattle.fleet_numbers.proofs.NumberLemmas.{distinct_rising, has_other, has_own, number_below}
+use Rattle.fleet_index.proofs.NumberLemmas.{distinct_rising, has_other, has_own, number_below}
 use Rattle.fleet_states.proofs.StatusLemmas.{changed_more_host, changed_none, status_at-set, status_at-set_other, waiting_not_down, waiting_within}
 use Rattle.down_ledger.specs.declared.share.Share.{Share}
 use Rattle.down_ledger.specs.Ledgers.{IsFirstFull as IsFirstFullLedger}

@@ -1,7 +1,7 @@
 -- What only the proofs need: what the ledger keeps between its calls.
 use Rattle.std.specs.Prelude.{◌≡◌, ℕ, List, cond, map, length}
 use Rattle.std.specs.List.{range_with_len}
-use Rattle.fleet_numbers.specs.Chains.{is_limited}
+use Rattle.fleet_index.specs.Chains.{is_limited}
 use Rattle.domains.specs.FleetViews.{IsSound}
 use Rattle.down_ledger.specs.Ledgers.{LedgerView, down_in, IsWithinLimits}
 

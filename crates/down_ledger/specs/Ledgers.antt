@@ -1,6 +1,6 @@
 -- Which hosts of a fleet are down, and which of its groups are at their limits.
 use Rattle.std.specs.Prelude.{◌≡◌, ℕ, ◌+◌, ◌<◌, Bool, true, false, None, List, map, count_by, slice_index_or, slice_set}
-use Rattle.fleet_numbers.specs.NumberLists.{has_number, list_at}
+use Rattle.fleet_index.specs.NumberLists.{has_number, list_at}
 use Rattle.domains.specs.FleetViews.{FleetView}
 use Rattle.domains.specs.Starts.{exceeds}
 use Rattle.fleet_states.specs.declared.status.Status.{Status}

@@ -1,6 +1,6 @@
 -- What is known of a fleet's hosts, and whose shares rest.
 use Rattle.std.specs.Prelude.{◌≡◌, ℕ, Bool, false, cond, List, length, slice_set, slice_index_or}
-use Rattle.fleet_numbers.specs.NumberLists.{has_number}
+use Rattle.fleet_index.specs.NumberLists.{has_number}
 use Rattle.domains.specs.FleetViews.{FleetView}
 use Rattle.fleet_states.specs.declared.status.Status.{Status}
 use Rattle.fleet_states.specs.Statuses.{changed}

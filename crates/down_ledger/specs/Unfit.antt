@@ -4,7 +4,7 @@ use Rattle.std.specs.List.{list_all}
 use Rattle.fleet_states.specs.declared.status.Status.{Status}
 use Rattle.fleet_states.specs.declared.status.Status.TheVariants.{Running}
 use Rattle.fleet_states.specs.Statuses.{are_ready, changed}
-use Rattle.fleet_states.specs.Groups.{FleetGroup, Fits, group_at, is_full_for, is_stuck}
+use Rattle.fleet_states.specs.Groups.{FleetGroup, Fits, group_at, is_full_for, lacks_room}
 
 -- the hosts before it are ready, and with it they are not
 pub record IsFirstUnready (statuses : List Status) (hosts : List ℕ) (host : ℕ) : Type 0 where
@@ -34,5 +34,5 @@ pub record IsFirstWithRoom (groups : List FleetGroup) (statuses : List Status) (
   pub place : ℕ
   pub inside : place < length hosts
   pub names : slice_index_or hosts place 0 ≡ host
-  pub before : list_all (is_stuck groups statuses) (take place hosts) ≡ true
-  pub room : is_stuck groups statuses host ≡ false
+  pub before : list_all (lacks_room groups statuses) (take place hosts) ≡ true
+  pub room : lacks_room groups statuses host ≡ false

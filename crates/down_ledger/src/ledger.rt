@@ -6,7 +6,7 @@ ghost use Rattle.down_ledger.specs.Ledgers.{is_marked, down_in, is_full, ledger_
 use crate::counting::{count_marked, list_counts, mark_down};
 use crate::share::{Full, Share};
 use domains::Fleet;
-use fleet_numbers::{lower_counts, raise_counts};
+use fleet_index::{lower_counts, raise_counts};
 use fleet_states::Status;
 use group_tree::{GroupId, HostId};
 use std::alloc::{AllocError, Global};

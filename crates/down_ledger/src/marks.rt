@@ -1,6 +1,6 @@
 //! Whether hosts wait, each once, tested without memory.
 ghost use Rattle.std.specs.Prelude.{◌≡◌, IsTrue, MatchResult, length};
-ghost use Rattle.fleet_numbers.specs.NumberLists.{are_below};
+ghost use Rattle.fleet_index.specs.NumberLists.{are_below};
 ghost use Rattle.fleet_states.specs.declared.status.Status.TheVariants.{Running};
 ghost use Rattle.domains.specs.Ids.{host_numbers};
 ghost use Rattle.fleet_states.specs.Statuses.{changed, are_ready};

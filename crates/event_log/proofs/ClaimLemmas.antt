@@ -4,13 +4,13 @@ use Rattle.std.specs.List.{filter, find, slice_get}
 use Rattle.std.proofs.lemmas.Bool.{and_from, and_parts, both_ways, cases_eq, eq-eqb, ne_eqb, not-true, or_left}
 use Rattle.std.proofs.lemmas.List.{get_or-set_other, get_or-set_same, length-set}
 use Rattle.group_tree.specs.declared.ids.HostId.{HostId}
-use Rattle.fleet_numbers.specs.NumberLists.{has_number}
+use Rattle.fleet_index.specs.NumberLists.{has_number}
 use Rattle.domains.specs.Ids.{host_numbers}
 use Rattle.fleet_states.specs.Statuses.{are_distinct}
 use Rattle.play_model.specs.declared.play.Play.{Play}
 use Rattle.play_model.specs.declared.step.Step.{Step}
 use Rattle.host_track.specs.Hosts.{Known}
-use Rattle.host_track.specs.declared.asked.Asked.{Asked}
+use Rattle.host_track.specs.declared.step_request.StepRequest.{StepRequest}
 use Rattle.host_track.specs.Tracks.{Entry, step_at}
 use Rattle.host_track.specs.Summaries.{Shows}
 use Rattle.host_track.specs.declared.summary.Summary.{Summary}
@@ -29,7 +29,7 @@ use Rattle.event_log.proofs.LineLemmas.{line_below, line_goes_on}
 use Rattle.event_log.proofs.StateLemmas.{and_apart, get_set, get_set_other, got_at, some_same}
 
 -- what is changed where a host is taken
-pub record Takes (old new : BatchWork) (host : ℕ) (asked : Asked) (before after : Summary) : Type 0 where
+pub record Takes (old new : BatchWork) (host : ℕ) (asked : StepRequest) (before after : Summary) : Type 0 where
   pub play : new.play.now ≡ old.play.now
   pub stage : new.stage ≡ old.stage
   pub batch : new.batch.items ≡ old.batch.items
@@ -46,7 +46,7 @@ abbrev pub Keeps : Summary → Summary → Type 0
 Keeps before after =
     (play : Play) (known : Known) (entries : List Entry) → Shows play known entries before → Shows play known entries after
 
-module _ (roll : Roll) (state : State) (old new : BatchWork) (host step : ℕ) (asked : Asked) (before after : Summary)
+module _ (roll : Roll) (state : State) (old new : BatchWork) (host step : ℕ) (asked : StepRequest) (before after : Summary)
     (work : IsWorkOf roll state old) (takes : Takes old new host asked before after) (at : old.stage ≡ Working step) where
   abbrev pub rest : List ℕ
   rest = host_numbers (drop new.next new.line.items)
@@ -128,7 +128,7 @@ module _ (roll : Roll) (state : State) (old new : BatchWork) (host step : ℕ) (
     step_here : (other : ℕ) → state.phase ≡ working other → step ≡ other
     step_here other now = let both : working step ≡ working other = sym phase ∙ now in cc
 
-    given_here : (other now : ℕ) (was : Asked) (summary : Summary) (asks : Step) → turn_at new.turns.items other ≡ Out was
+    given_here : (other now : ℕ) (was : StepRequest) (summary : Summary) (asks : Step) → turn_at new.turns.items other ≡ Out was
         → slice_get new.summaries.items other ≡ Some summary → state.phase ≡ working now → step_at roll.play now ≡ Some asks
         → IsGiven roll state other summary.vars was asks
     given_here other now was summary asks turn got is_now named = by_case (cases_eq other host)
@@ -141,13 +141,13 @@ module _ (roll : Roll) (state : State) (old new : BatchWork) (host step : ℕ) (
             let at_step : step_at roll.play step ≡ Some asks = ap (step_at roll.play) (step_here now is_now) ∙ named in
             let task_same : task ≡ asks = some_same task asks (sym is ∙ at_step) in
             let with_summary : IsGiven roll state host summary.vars asked task = subst (λ (s : Summary). IsGiven roll state host s.vars asked task) (sym (summary_here summary mine)) given in
-            let with_asked : IsGiven roll state host summary.vars was task = subst (λ (a : Asked). IsGiven roll state host summary.vars a task) one with_summary in
+            let with_asked : IsGiven roll state host summary.vars was task = subst (λ (a : StepRequest). IsGiven roll state host summary.vars a task) one with_summary in
             let with_task : IsGiven roll state host summary.vars was asks = subst (λ (t : Step). IsGiven roll state host summary.vars was t) task_same with_asked in
             subst (λ (h : ℕ). IsGiven roll state h summary.vars was asks) (sym same) with_task
         by_case (inr apart) =
             work.given other now was summary asks (sym (turn_other other apart) ∙ turn) (summary_other other summary apart got) is_now named
 
-    given_now : (other now : ℕ) (was : Asked) (summary : Summary) (asks : Step) → turn_at new.turns.items other ≡ Out was
+    given_now : (other now : ℕ) (was : StepRequest) (summary : Summary) (asks : Step) → turn_at new.turns.items other ≡ Out was
         → slice_get new.summaries.items other ≡ Some summary → state.phase ≡ working now → step_at roll.play now ≡ Some asks
         → IsGiven roll later other summary.vars was asks
     given_now other now was summary asks turn got is_now named =
@@ -229,7 +229,7 @@ work_asked roll state old new host before after work asks keeps =
     not_out =
         not-true (has_number host state.out) (and_parts (is_awaited_in roll state host) (not (has_number host state.out)) (has_passed (is_free roll state) state.batch host stands).1).1
 
-    given : (other step : ℕ) (asked : Asked) (summary : Summary) (task : Step) → turn_at new.turns.items other ≡ Out asked
+    given : (other step : ℕ) (asked : StepRequest) (summary : Summary) (task : Step) → turn_at new.turns.items other ≡ Out asked
         → slice_get new.summaries.items other ≡ Some summary → state.phase ≡ working step → step_at roll.play step ≡ Some task
         → IsGiven roll state other summary.vars asked task
     given other step asked summary task turn got is named = by_case (cases_eq other host)
@@ -271,7 +271,7 @@ asks_of old new host before after at value play stage batch summaries turns line
     }
 
 -- and taken
-pub takes_of : (old new : BatchWork) (host : HostId) (asked : Asked) (before after : Summary)
+pub takes_of : (old new : BatchWork) (host : HostId) (asked : StepRequest) (before after : Summary)
     → (old.next < length old.line.items) × (slice_get old.line.items old.next ≡ Some host) → before ≡ get_or old.summaries.items host.index before
     → new.play.now ≡ old.play.now → new.stage ≡ old.stage → new.batch.items ≡ old.batch.items
     → new.summaries.items ≡ set old.summaries.items host.index after → new.turns.items ≡ set old.turns.items host.index (Out asked)

@@ -4,7 +4,7 @@ use Rattle.std.proofs.Common.{length, refl, sym, ap, ◌∙◌, subst, arith, in
 use Rattle.std.specs.Prelude.{if◌then◌else◌}
 use Rattle.std.specs.List.{list_any}
 use Rattle.std.proofs.lemmas.Bool.{both_ways, cases_eq, cases_lt, not-false, not-true, ltb-false, ltb-true}
-use Rattle.fleet_numbers.specs.NumberLists.{has_number}
+use Rattle.fleet_index.specs.NumberLists.{has_number}
 use Rattle.fleet_states.proofs.ReadyLemmas.{ready_waits}
 use Rattle.host_track.specs.Endings.{Ending}
 use Rattle.play_model.specs.declared.step.Step.{Step}

@@ -4,7 +4,7 @@ use Rattle.std.specs.List.{count_by, slice_get}
 use Rattle.std.proofs.lemmas.List.Sums.{sum_by-cons}
 use Rattle.std.proofs.lemmas.Option.{slice_get-get_or}
 use Rattle.group_tree.specs.declared.ids.HostId.{HostId}
-use Rattle.fleet_numbers.specs.NumberLists.{are_below, has_number}
+use Rattle.fleet_index.specs.NumberLists.{are_below, has_number}
 use Rattle.domains.specs.Ids.{host_numbers}
 use Rattle.fleet_states.proofs.CountLemmas.{bit, count_by-cons}
 use Rattle.fleet_states.proofs.NumberLemmas.{number_below}

@@ -4,14 +4,14 @@ use Rattle.std.specs.List.{slice_get}
 use Rattle.std.proofs.lemmas.Bool.{and_left, and_right, both_ways, cases_eq, false_from_ne_true}
 use Rattle.std.proofs.lemmas.List.{get_or-set_other, get_or-set_same, length-set}
 use Rattle.group_tree.specs.declared.ids.HostId.{HostId}
-use Rattle.fleet_numbers.specs.NumberLists.{has_number}
+use Rattle.fleet_index.specs.NumberLists.{has_number}
 use Rattle.domains.specs.Ids.{host_numbers}
 use Rattle.play_model.specs.declared.step.Step.{Step}
 use Rattle.play_model.specs.declared.play.Play.{Play}
 use Rattle.host_track.specs.Hosts.{Known}
 use Rattle.host_track.specs.Endings.{Ending}
 use Rattle.host_track.specs.Asking.{Request, job, settled, asks, end_of}
-use Rattle.host_track.specs.declared.asked.Asked.{Asked}
+use Rattle.host_track.specs.declared.step_request.StepRequest.{StepRequest}
 use Rattle.host_track.specs.Tracks.{Entry, entry_of, is_due, known_after, row_at, step_at}
 use Rattle.host_track.specs.Summaries.{Shows}
 use Rattle.host_track.specs.declared.summary.Summary.{Summary}
@@ -152,7 +152,7 @@ module _ (roll : Roll) (state : State) (old new : BatchWork) (host step : ℕ) (
       by_case (inr apart) =
           ap is_out (turn_other other apart) ∙ work.taken other ∙ sym (without_other host state.out other apart)
 
-  given_now : (other at : ℕ) (asked : Asked) (summary : Summary) (task : Step) → turn_at new.turns.items other ≡ Out asked
+  given_now : (other at : ℕ) (asked : StepRequest) (summary : Summary) (task : Step) → turn_at new.turns.items other ≡ Out asked
       → slice_get new.summaries.items other ≡ Some summary → state.phase ≡ working at → step_at roll.play at ≡ Some task
       → IsGiven roll now other summary.vars asked task
   given_now other at asked summary task turn got is_now named = by_case (cases_eq other host)

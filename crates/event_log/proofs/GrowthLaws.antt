@@ -2,7 +2,7 @@
 use Rattle.std.proofs.Common.{◌≡◌, ℕ, ◌≤◌, Bool, true, false, ◌&&◌, Option, None, Some, List, [], ◌∷◌, ◌++◌, sym, ap, ◌∙◌, refl, subst, arith, inl, inr, ◌⊎◌}
 use Rattle.std.specs.List.{count_by, list_all}
 use Rattle.std.proofs.lemmas.Bool.{and_parts, both_ways, cases_eq, eqb-true, ne_eqb, not-true}
-use Rattle.fleet_numbers.specs.NumberLists.{has_number}
+use Rattle.fleet_index.specs.NumberLists.{has_number}
 use Rattle.fleet_states.specs.declared.status.Status.{Status}
 use Rattle.fleet_states.specs.declared.status.Status.TheVariants.{Running, Held}
 use Rattle.fleet_states.specs.Statuses.{is_waiting, status_at}
@@ -28,7 +28,7 @@ after_all roll state (event ∷ log) more = after_all roll (next roll state even
 pub after_more : (roll : Roll) (state : State) (log : List Event) (event : Event) → state_after roll state (log ++ event ∷ []) ≡ next roll (state_after roll state log) event
 after_more roll state log event = after_all roll state log (event ∷ [])
 
-pub one_event_more : growth.OneEventMore
+pub one_event_more : growth.StateAfterEvent
 one_event_more roll log event = after_more roll (start_state roll) log event
 
 pub legal_more : (roll : Roll) (state : State) (log : List Event) (event : Event) → IsLegal roll state log → Allowed roll (state_after roll state log) event → IsLegal roll state (log ++ event ∷ [])
@@ -57,7 +57,7 @@ module _ (may : Work → Ending → Type 0) (roll : Roll) where
   told_beginning state (event ∷ log) more told =
       (told.0, told_beginning (next roll state event) log more told.1)
 
-pub beginnings_tell : growth.BeginningsTell
+pub beginnings_tell : growth.PrefixKeepsColumns
 beginnings_tell columns roll log more = told_beginning (gives columns) roll (start_state roll) log more
 
 -- at the end of a legal log
@@ -289,10 +289,10 @@ module _ (roll : Roll) (host : ℕ) where
       in
       left_twice state (next roll state event) (state_after roll state (event ∷ more)) host (one_left state event legal.0 work served outside) later
 
-pub bare_at_boundaries : growth.BoundariesAreBare
+pub bare_at_boundaries : growth.ClosedBatchIsEmpty
 bare_at_boundaries roll log legal = (end_at_work roll log legal).bare
 
-pub nobody_out : growth.NobodyIsOutOffAStep
+pub nobody_out : growth.NoClaimOutsideSteps
 nobody_out roll log legal = (end_at_work roll log legal).nobody
 
 pub no_host_twice : growth.NoHostIsOpenedTwice

@@ -5,7 +5,7 @@ use Rattle.std.proofs.lemmas.Bool.{and_left, and_right}
 use Rattle.std.proofs.lemmas.List.{drop_more}
 use Rattle.std.proofs.lemmas.Option.{get_or_from_slice_get}
 use Rattle.group_tree.specs.declared.ids.HostId.{HostId}
-use Rattle.fleet_numbers.specs.NumberLists.{are_below, has_number}
+use Rattle.fleet_index.specs.NumberLists.{are_below, has_number}
 use Rattle.domains.specs.Ids.{host_numbers}
 use Rattle.fleet_states.proofs.HostLemmas.{host_below}
 use Rattle.play_model.specs.declared.play.Play.{Play}

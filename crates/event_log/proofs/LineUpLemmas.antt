@@ -5,7 +5,7 @@ use Rattle.std.specs.List.{filter}
 use Rattle.std.proofs.lemmas.Bool.{and_from, and_parts, cases_eq, eq-eqb, lt-ltb, ne_eqb}
 use Rattle.std.proofs.lemmas.List.{drop-set, drop_more, get_or-set_other, get_or-set_same}
 use Rattle.group_tree.specs.declared.ids.HostId.{HostId}
-use Rattle.fleet_numbers.specs.NumberLists.{are_below, has_number}
+use Rattle.fleet_index.specs.NumberLists.{are_below, has_number}
 use Rattle.domains.specs.Ids.{host_numbers}
 use Rattle.play_model.specs.declared.play.Play.{Play}
 use Rattle.host_track.specs.declared.summary.Summary.{Summary}

@@ -5,7 +5,7 @@ use Rattle.std.specs.List.{filter, find}
 use Rattle.group_tree.specs.declared.ids.HostId.{HostId}
 use Rattle.domains.specs.Ids.{host_numbers}
 use Rattle.std.proofs.lemmas.Bool.{and_from, and_parts, both_ways, eq-eqb, eqb-true, false_from_ne_true, not-true, or_left, or_parts, or_right}
-use Rattle.fleet_numbers.specs.NumberLists.{has_number}
+use Rattle.fleet_index.specs.NumberLists.{has_number}
 use Rattle.fleet_states.specs.Statuses.{are_distinct}
 use Rattle.event_log.specs.States.{without}
 use Rattle.domains.proofs.WhereLemmas.{filter-filter}

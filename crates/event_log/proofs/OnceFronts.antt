@@ -4,7 +4,7 @@ use Rattle.std.specs.List.{count_by}
 use Rattle.std.proofs.lemmas.List.Folds.{list_any-append}
 use Rattle.std.proofs.lemmas.List.Sums.{sum_by-cons}
 use Rattle.std.proofs.lemmas.Bool.{and_parts, both_ways, cases_eq, eq-eqb, eqb-true, ne_eqb, or_right}
-use Rattle.fleet_numbers.specs.NumberLists.{has_number}
+use Rattle.fleet_index.specs.NumberLists.{has_number}
 use Rattle.fleet_states.proofs.CountLemmas.{bit}
 use Rattle.play_model.specs.declared.step.Step.{Step}
 use Rattle.host_track.specs.Endings.{Ending}
@@ -48,8 +48,8 @@ row_added roll host rows step ending task is = by_case (step_at roll.play step) 
 
 module _ (roll : Roll) (host step : ℕ) where
   -- the host has a row of the step, or is out for it
-  abbrev Taken : State → Type 0
-  Taken state =
+  abbrev Assignment : State → Type 0
+  Assignment state =
       (has_row (state.rows host) step ≡ true) ⊎ ((has_number host state.out ≡ true) × (state.phase ≡ working step))
 
   pub has_after : (state : State) (event : Event) → has_row (state.rows host) step ≡ true → has_row ((next roll state event).rows host) step ≡ true
@@ -79,7 +79,7 @@ module _ (roll : Roll) (host step : ℕ) where
       let rows : List Entry = rows_with roll host (state.rows host) place ending in
       ap (λ l. has_row l step) (own_rows host rows state.rows host refl) ∙ subst (λ (n : ℕ). has_row rows n ≡ true) same (row_added roll host (state.rows host) place ending may.task may.is)
 
-  taken_after : (state : State) (event : Event) → Allowed roll state event → AtWork roll.play state → Taken state → Taken (next roll state event)
+  taken_after : (state : State) (event : Event) → Allowed roll state event → AtWork roll.play state → Assignment state → Assignment (next roll state event)
   taken_after state event may work (inl has) = inl (has_after state event has)
   taken_after state (set_aside hosts) may work (inr out) = inr out
   taken_after state (opened batch) may work (inr out) =
@@ -91,7 +91,7 @@ module _ (roll : Roll) (host step : ℕ) where
       one : place ≡ step
       one = step_of place step (sym may.at ∙ out.1)
 
-      by_case : (host ≡ other) ⊎ (host ≡ other → ⊥) → Taken (next roll state (reported other place ending))
+      by_case : (host ≡ other) ⊎ (host ≡ other → ⊥) → Assignment (next roll state (reported other place ending))
       by_case (inl same) =
           inl (subst (λ (h : ℕ). MayReport roll state h place ending → IsIn state h place ending) same (λ may. own_report state place ending may one) may)
       by_case (inr apart) = inr (has_still other state.out host apart out.0, out.1)
@@ -101,7 +101,7 @@ module _ (roll : Roll) (host step : ℕ) where
   taken_after state closed may work (inr out) =
       let both : ended may.halt ≡ working step = sym may.at ∙ out.1 in absurd (cc)
 
-  not_claimed : (state : State) → Taken state → (event : Event) → Allowed roll state event → is_claim_of host step event ≡ false
+  not_claimed : (state : State) → Assignment state → (event : Event) → Allowed roll state event → is_claim_of host step event ≡ false
   not_claimed state taken (set_aside hosts) may = refl
   not_claimed state taken (opened batch) may = refl
   not_claimed state taken (reported other place ending) may = refl
@@ -109,7 +109,7 @@ module _ (roll : Roll) (host step : ℕ) where
   not_claimed state taken closed may = refl
   not_claimed state taken (claimed other place) may = by_case (nat_eq other host && nat_eq place step) refl
     where
-      refused : (other ≡ host) × (place ≡ step) → Taken state → ⊥
+      refused : (other ≡ host) × (place ≡ step) → Assignment state → ⊥
       refused same (inl has) =
           let free = (and_parts (is_due roll.play (state.rows other) place) (not (has_row (state.rows other) place)) may.awaited).1 in
           let own : has_row (state.rows other) place ≡ true = ap (λ h. has_row (state.rows h) place) same.0 ∙ ap (has_row (state.rows host)) same.1 ∙ has in
@@ -121,14 +121,14 @@ module _ (roll : Roll) (host step : ℕ) where
       by_case true both = absurd (refused (same_pair other host place step both) taken)
       by_case false both = refl
 
-  none_left : (state : State) (log : List Event) → AtWork roll.play state → Taken state → IsLegal roll state log → count_by (is_claim_of host step) log ≡ 0
+  none_left : (state : State) (log : List Event) → AtWork roll.play state → Assignment state → IsLegal roll state log → count_by (is_claim_of host step) log ≡ 0
   none_left state [] work taken legal = refl
   none_left state (event ∷ log) work taken legal =
       let now : AtWork roll.play (next roll state event) = next_at_work roll state event legal.0 work in
       let later = none_left (next roll state event) log now (taken_after state event legal.0 work taken) legal.1 in
       count_other (is_claim_of host step) event log (not_claimed state taken event legal.0) ∙ later
 
-  takes : (state : State) (event : Event) → Allowed roll state event → is_claim_of host step event ≡ true → Taken (next roll state event)
+  takes : (state : State) (event : Event) → Allowed roll state event → is_claim_of host step event ≡ true → Assignment (next roll state event)
   takes state (set_aside hosts) may is = absurd (cc)
   takes state (opened batch) may is = absurd (cc)
   takes state (reported other place ending) may is = absurd (cc)

@@ -3,12 +3,12 @@ use Rattle.std.proofs.Common.{◌≡◌, ℕ, suc, ◌+◌, ◌≤◌, length, a
 use Rattle.std.specs.Prelude.{if◌then◌else◌}
 use Rattle.std.specs.List.{count_by, filter, list_all, slice_get}
 use Rattle.std.proofs.lemmas.Bool.{and_left, and_right, both_ways, eq-eqb, eqb-false, eqb-true, ne_eqb, not_from_false}
-use Rattle.fleet_numbers.specs.NumberLists.{has_number}
+use Rattle.fleet_index.specs.NumberLists.{has_number}
 use Rattle.fleet_states.proofs.CountLemmas.{bit, count_by-cons}
 use Rattle.domains.specs.Ids.{host_numbers}
 use Rattle.play_model.specs.declared.play.Play.{Play}
 use Rattle.play_model.specs.declared.step.Step.{Step}
-use Rattle.host_track.specs.declared.asked.Asked.{Asked}
+use Rattle.host_track.specs.declared.step_request.StepRequest.{StepRequest}
 use Rattle.host_track.specs.Tracks.{has_failed, is_due}
 use Rattle.host_track.specs.Summaries.{Shows}
 use Rattle.host_track.specs.declared.summary.Summary.{Summary}
@@ -88,7 +88,7 @@ module _ (roll : Roll) (state : State) (step : ℕ) (old new : List Turn) (line 
           let mine : due host ≡ is_awaited_in roll state host = due_awaited host here ∙ sym (ap (λ b. b && is_awaited_by roll.play state.phase (state.rows host)) here) in
           mine ∙ and_true (is_awaited_in roll state host) ∙ ap (λ (l : List ℕ). is_awaited_in roll state host && not (has_number host l)) (sym nobody)
 
-  pub lined_given : (host at : ℕ) (asked : Asked) (summary : Summary) (task : Step) → turn_at new host ≡ Out asked → IsGiven roll state host summary.vars asked task
+  pub lined_given : (host at : ℕ) (asked : StepRequest) (summary : Summary) (task : Step) → turn_at new host ≡ Out asked → IsGiven roll state host summary.vars asked task
   lined_given host at asked summary task turn =
       absurd (both_ways true (sym (ap is_out turn) ∙ lined_idle host) refl)
 

@@ -3,7 +3,7 @@ use Rattle.std.proofs.Common.{◌≡◌, ℕ, zero, suc, ◌<◌, nat_lt, nat_eq
 use Rattle.std.specs.Prelude.{slice_get, if◌then◌else◌}
 use Rattle.std.specs.List.{list_any}
 use Rattle.std.proofs.lemmas.Bool.{eq-eqb, ltb-true, not-false, or_cases, or_left, or_right}
-use Rattle.fleet_numbers.specs.NumberLists.{has_number}
+use Rattle.fleet_index.specs.NumberLists.{has_number}
 use Rattle.play_model.specs.declared.step.Step.{Step}
 use Rattle.host_track.specs.Endings.{Ending, ran}
 use Rattle.host_track.specs.Asking.{Request, asks, job, settled}

@@ -1,6 +1,6 @@
 -- What an event leaves as it was, and what holds of the open batch at every front.
 use Rattle.std.specs.Prelude.{◌≡◌, ℕ, suc, nat_eq, Bool, true, false, ◌⊎◌, List, if◌then◌else◌}
-use Rattle.fleet_numbers.specs.NumberLists.{has_number}
+use Rattle.fleet_index.specs.NumberLists.{has_number}
 use Rattle.fleet_states.specs.declared.status.Status.TheVariants.{Running, Failed}
 use Rattle.fleet_states.specs.Statuses.{status_at}
 use Rattle.host_track.specs.Endings.{Ending}

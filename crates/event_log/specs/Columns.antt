@@ -1,6 +1,6 @@
 -- What a log says of the hosts, against columns, which give each host and step an end for its program.
 use Rattle.std.specs.Prelude.{◌≡◌, ℕ, suc, nat_eq, true, ◌&&◌, Option, Some, None, List, [], ◌∷◌, length, pos, if◌then◌else◌}
-use Rattle.fleet_numbers.specs.NumberLists.{has_number}
+use Rattle.fleet_index.specs.NumberLists.{has_number}
 use Rattle.host_track.specs.Endings.{Ending, ran}
 use Rattle.host_track.specs.Tracks.{Column, track, whole_track, failing_step}
 use Rattle.fleet_states.specs.Batches.{Fails, failed_in, halt, statuses_after}

@@ -1,7 +1,7 @@
 -- A log and what goes on from it.
 use Rattle.std.specs.Prelude.{◌≡◌, ℕ, ◌≤◌, Bool, true, false, List, [], ◌∷◌, ◌++◌, count_by}
 use Rattle.std.specs.List.{list_all}
-use Rattle.fleet_numbers.specs.NumberLists.{has_number}
+use Rattle.fleet_index.specs.NumberLists.{has_number}
 use Rattle.fleet_states.specs.Statuses.{is_waiting, status_at}
 use Rattle.host_track.specs.Endings.{Ending}
 use Rattle.event_log.specs.Rolls.{Roll}
@@ -12,8 +12,8 @@ use Rattle.event_log.specs.Columns.{Columns, Tells}
 use Rattle.event_log.specs.Changes.{IsLeft}
 
 -- the state after one event more
-abbrev pub OneEventMore : Type 0
-OneEventMore =
+abbrev pub StateAfterEvent : Type 0
+StateAfterEvent =
     (roll : Roll) (log : List Event) (event : Event) → end_state roll (log ++ event ∷ []) ≡ next roll (end_state roll log) event
 
 -- a legal log may go on with each event that is allowed at its end
@@ -27,8 +27,8 @@ BeginningsAreLegal =
     (roll : Roll) (log more : List Event) → IsLegal roll (start_state roll) (log ++ more) → IsLegal roll (start_state roll) log
 
 -- columns that a log tells its beginning tells too
-abbrev pub BeginningsTell : Type 0
-BeginningsTell =
+abbrev pub PrefixKeepsColumns : Type 0
+PrefixKeepsColumns =
     (columns : Columns) (roll : Roll) (log more : List Event) → Tells columns roll (log ++ more) → Tells columns roll log
 
 -- the batch and the statuses at its opening are the same, and all hosts outside it are as they were
@@ -54,13 +54,13 @@ BatchesStayTheirs =
     → IsWithinBatch (next roll (end_state roll log) (opened batch)) (end_state roll (log ++ opened batch ∷ more))
 
 -- where no batch is open, nobody is in one
-abbrev pub BoundariesAreBare : Type 0
-BoundariesAreBare =
+abbrev pub ClosedBatchIsEmpty : Type 0
+ClosedBatchIsEmpty =
     (roll : Roll) (log : List Event) → IsLegal roll (start_state roll) log → (end_state roll log).phase ≡ between → (end_state roll log).batch ≡ []
 
 -- where no batch is at a step, no claim is out
-abbrev pub NobodyIsOutOffAStep : Type 0
-NobodyIsOutOffAStep =
+abbrev pub NoClaimOutsideSteps : Type 0
+NoClaimOutsideSteps =
     (roll : Roll) (log : List Event) → IsLegal roll (start_state roll) log → ((step : ℕ) → (end_state roll log).phase ≡ working step → ⊥) → (end_state roll log).out ≡ []
 
 -- the event opens a batch with the host

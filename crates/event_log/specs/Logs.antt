@@ -1,11 +1,11 @@
 -- Which logs of a roll are legal, and the state after each.
 use Rattle.std.specs.Prelude.{◌≡◌, ℕ, ◌<◌, true, false, Option, Some, List, [], ◌∷◌, length}
 use Rattle.std.specs.List.{list_all, list_any}
-use Rattle.fleet_numbers.specs.NumberLists.{has_number}
+use Rattle.fleet_index.specs.NumberLists.{has_number}
 use Rattle.fleet_states.specs.declared.status.Status.{Status}
 use Rattle.fleet_states.specs.declared.status.Status.TheVariants.{Running, Held}
 use Rattle.fleet_states.specs.Statuses.{are_ready, changed}
-use Rattle.fleet_states.specs.Groups.{Fits, is_stuck}
+use Rattle.fleet_states.specs.Groups.{Fits, lacks_room}
 use Rattle.play_model.specs.declared.step.Step.{Step}
 use Rattle.host_track.specs.Endings.{Ending}
 use Rattle.host_track.specs.Asking.{asks}
@@ -19,7 +19,7 @@ pub record MaySetAside (roll : Roll) (state : State) (hosts : List ℕ) : Type 0
   pub boundary : state.phase ≡ between
   pub some : 0 < length hosts
   pub ready : are_ready state.statuses hosts ≡ true
-  pub stuck : list_all (is_stuck roll.groups state.statuses) hosts ≡ true
+  pub stuck : list_all (lacks_room roll.groups state.statuses) hosts ≡ true
 
 -- a batch of waiting hosts, within the room of each group, may be opened at a boundary
 pub record MayOpen (roll : Roll) (state : State) (batch : List ℕ) : Type 0 where

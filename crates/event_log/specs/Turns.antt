@@ -1,6 +1,6 @@
 -- Where the hosts of a batch are with the present step.
 use Rattle.std.specs.Prelude.{◌≡◌, ℕ, nat_lt, Bool, true, false, cond, ◌&&◌, Option, Some, None, List, filter, slice_get, slice_index_or}
-use Rattle.fleet_numbers.specs.NumberLists.{has_number}
+use Rattle.fleet_index.specs.NumberLists.{has_number}
 use Rattle.play_model.specs.declared.play.Play.{Play}
 use Rattle.host_track.specs.Summaries.{shows_due}
 use Rattle.host_track.specs.declared.summary.Summary.{Summary}

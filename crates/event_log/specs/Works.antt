@@ -1,6 +1,6 @@
 -- The work on a batch as it is kept, against the state of its roll.
 use Rattle.std.specs.Prelude.{◌≡◌, ℕ, ◌≤◌, suc, nat_eq, Bool, true, false, not, ◌&&◌, ◌||◌, if◌then◌else◌, ◌⊎◌, Option, Some, None, List, [], length, filter, find, drop, slice_get}
-use Rattle.fleet_numbers.specs.NumberLists.{has_number}
+use Rattle.fleet_index.specs.NumberLists.{has_number}
 use Rattle.domains.specs.Ids.{host_numbers}
 use Rattle.fleet_states.specs.Statuses.{are_distinct}
 use Rattle.host_vars.specs.declared.vars.Vars.{Vars}
@@ -9,7 +9,7 @@ use Rattle.play_model.specs.declared.step.Step.{Step}
 use Rattle.host_track.specs.Hosts.{Known, known_of}
 use Rattle.host_track.specs.Judging.{register_of}
 use Rattle.host_track.specs.Asking.{asks, asked_as}
-use Rattle.host_track.specs.declared.asked.Asked.{Asked}
+use Rattle.host_track.specs.declared.step_request.StepRequest.{StepRequest}
 use Rattle.host_track.specs.Tracks.{Entry, known_after, step_at}
 use Rattle.host_track.specs.Summaries.{Shows, HasPlaceFor}
 use Rattle.host_track.specs.declared.summary.Summary.{Summary}
@@ -20,7 +20,7 @@ use Rattle.event_log.specs.States.{State, Phase, between, working, ended, is_awa
 use Rattle.event_log.specs.Logs.{MayClaim, next}
 use Rattle.event_log.specs.declared.stage.Stage.{Stage}
 use Rattle.event_log.specs.declared.stage.Stage.TheVariants.{Between, Working, Ended}
-use Rattle.event_log.specs.declared.taken.Taken.{Taken}
+use Rattle.event_log.specs.declared.assignment.Assignment.{Assignment}
 use Rattle.event_log.specs.declared.work.BatchWork.{BatchWork}
 use Rattle.event_log.specs.declared.turn.Turn.TheVariants.{Out}
 use Rattle.event_log.specs.Requests.{HasRow, request_of}
@@ -70,7 +70,7 @@ abbrev pub is_free : Roll → State → ℕ → Bool
 is_free roll state host = is_awaited_in roll state host && not (has_number host state.out)
 
 -- what was given out is what the step asks of the host, and a place is kept for its result
-pub record IsGiven (roll : Roll) (state : State) (host : ℕ) (vars : Vars) (asked : Asked) (task : Step) : Type 0 where
+pub record IsGiven (roll : Roll) (state : State) (host : ℕ) (vars : Vars) (asked : StepRequest) (task : Step) : Type 0 where
   pub asks : asked_as asked ≡ asks (known_after roll.play (roll.known host) (state.rows host)) task
   pub place : HasPlaceFor vars (register_of task)
 
@@ -85,7 +85,7 @@ pub record IsWorkOf (roll : Roll) (state : State) (work : BatchWork) : Type 0 wh
   pub summaries : ShowEach roll.play roll.known state.rows work.summaries.items
   pub awaited : (host : ℕ) → awaits (turn_at work.turns.items host) ≡ is_awaited_in roll state host
   pub taken : (host : ℕ) → is_out (turn_at work.turns.items host) ≡ has_number host state.out
-  pub given : (host step : ℕ) (asked : Asked) (summary : Summary) (task : Step) → turn_at work.turns.items host ≡ Out asked
+  pub given : (host step : ℕ) (asked : StepRequest) (summary : Summary) (task : Step) → turn_at work.turns.items host ≡ Out asked
       → slice_get work.summaries.items host ≡ Some summary → state.phase ≡ working step → step_at roll.play step ≡ Some task
       → IsGiven roll state host summary.vars asked task
   pub free : host_numbers (drop work.next work.line.items) ≡ filter (is_free roll state) state.batch
@@ -98,7 +98,7 @@ pub record IsFresh (state : State) (batch : List ℕ) : Type 0 where
   pub rows : (host : ℕ) → has_number host batch ≡ true → state.rows host ≡ []
 
 -- the first free host was taken, with what the present step asks of it
-pub record IsTaken (roll : Roll) (state : State) (new : BatchWork) (taken : Taken) : Type 0 where
+pub record IsTaken (roll : Roll) (state : State) (new : BatchWork) (taken : Assignment) : Type 0 where
   pub first : find (is_free roll state) state.batch ≡ Some taken.host.index
   pub may : MayClaim roll state taken.host.index taken.step
   pub asks : (task : Step) → step_at roll.play taken.step ≡ Some task → request_of taken.given ≡ asks (known_after roll.play (roll.known taken.host.index) (state.rows taken.host.index)) task
@@ -110,6 +110,6 @@ pub record IsNoneTaken (roll : Roll) (state : State) (new : BatchWork) : Type 0 
   pub why : (find (is_free roll state) state.batch ≡ None) ⊎ (roll.forks ≤ length state.out)
   pub work : IsWorkOf roll state new
 
-abbrev pub IsClaim : Roll → State → BatchWork → Option Taken → Type 0
+abbrev pub IsClaim : Roll → State → BatchWork → Option Assignment → Type 0
 IsClaim roll state work None = IsNoneTaken roll state work
 IsClaim roll state work (Some taken) = IsTaken roll state work taken

@@ -2,18 +2,18 @@
 ghost use Rattle.std.specs.Prelude.{◌≡◌, IfOk, map, string_bytes};
 ghost use Rattle.host_track.specs.Asking.{asked_as};
 
-use host_track::Asked;
+use host_track::StepRequest;
 use std::alloc::{AllocError, Global};
 
 /// An equal one. It fails for want of memory alone.
-pub(crate) fn copy_of(alloc: Global, asked: &Asked) -> Result<Asked, AllocError>
+pub(crate) fn copy_of(alloc: Global, asked: &StepRequest) -> Result<StepRequest, AllocError>
     ensures { IfOk result (λ copy. asked_as copy ≡ asked_as asked.now) }
 {
     match asked {
-        Asked::Job { words } => Ok(Asked::Job {
+        StepRequest::Job { words } => Ok(StepRequest::Job {
             words: words_again(alloc, words.as_slice())?,
         }),
-        Asked::Settled(outcome) => Ok(Asked::Settled(outcome.copy(alloc)?)),
+        StepRequest::Settled(outcome) => Ok(StepRequest::Settled(outcome.copy(alloc)?)),
     }
 }
 

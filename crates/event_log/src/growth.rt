@@ -1,12 +1,12 @@
 //! What holds of a legal log that goes on, whoever makes it.
-ghost use Rattle.event_log.specs.Growth.{BatchesStayTheirs, BeginningsAreLegal, BeginningsTell, BoundariesAreBare, HostsBehindTheirBatchStay};
-ghost use Rattle.event_log.specs.Growth.{HostsOfNoBatchHaveNoRows, NobodyIsOutOffAStep};
-ghost use Rattle.event_log.specs.Growth.{LegalLogsGrow, NoHostIsOpenedTwice, OneEventMore, WorkStaysWithinStep};
+ghost use Rattle.event_log.specs.Growth.{BatchesStayTheirs, BeginningsAreLegal, PrefixKeepsColumns, ClosedBatchIsEmpty, HostsBehindTheirBatchStay};
+ghost use Rattle.event_log.specs.Growth.{HostsOfNoBatchHaveNoRows, NoClaimOutsideSteps};
+ghost use Rattle.event_log.specs.Growth.{LegalLogsGrow, NoHostIsOpenedTwice, StateAfterEvent, WorkStaysWithinStep};
 
 /// The state after one event more is that after the event.
 #[tactic(auto, using(crate::proofs::GrowthLaws::one_event_more))]
 pub fn one_event_more()
-    ensures { OneEventMore }
+    ensures { StateAfterEvent }
 {}
 
 /// A legal log may go on with each event that is allowed at its end.
@@ -24,7 +24,7 @@ pub fn beginnings_are_legal()
 /// Columns that a log tells its beginning tells too.
 #[tactic(auto, using(crate::proofs::GrowthLaws::beginnings_tell))]
 pub fn beginnings_tell()
-    ensures { BeginningsTell }
+    ensures { PrefixKeepsColumns }
 {}
 
 /// Claims and reports alone leave the batch at its step, and all hosts outside it as they are.
@@ -42,13 +42,13 @@ pub fn batches_stay_theirs()
 /// Where no batch is open, nobody is in one.
 #[tactic(auto, using(crate::proofs::GrowthLaws::bare_at_boundaries))]
 pub fn boundaries_are_bare()
-    ensures { BoundariesAreBare }
+    ensures { ClosedBatchIsEmpty }
 {}
 
 /// Where no batch is at a step, no claim is out.
 #[tactic(auto, using(crate::proofs::GrowthLaws::nobody_out))]
 pub fn nobody_is_out_off_a_step()
-    ensures { NobodyIsOutOffAStep }
+    ensures { NoClaimOutsideSteps }
 {}
 
 /// Each host stands in at most one batch of a play.

@@ -2,19 +2,19 @@
 #![tactic(auto)]
 
 mod asked;
+mod assignment;
+mod due_queue;
 mod entered;
-mod given;
 mod growth;
 mod laws;
-mod line;
 mod room;
 mod stage;
-mod taken;
 mod turn;
 mod work;
+mod work_item;
 
+pub use assignment::Assignment;
 pub use entered::Entered;
-pub use given::Given;
 pub use growth::{
     batches_stay_theirs, beginnings_are_legal, beginnings_tell, boundaries_are_bare,
     hosts_behind_their_batch_stay, hosts_of_no_batch_have_no_rows, legal_logs_grow,
@@ -28,5 +28,5 @@ pub use laws::{
     reports_follow_claims, rows_are_few, rows_last,
 };
 pub use stage::Stage;
-pub use taken::Taken;
 pub use work::BatchWork;
+pub use work_item::WorkItem;

@@ -2,7 +2,7 @@
 ghost use Rattle.std.specs.Prelude.{◌≡◌};
 ghost use Rattle.event_log.specs.Turns as spec;
 
-use host_track::Asked;
+use host_track::StepRequest;
 
 #[derive(Debug, Drop)]
 pub(crate) enum Turn {
@@ -11,7 +11,7 @@ pub(crate) enum Turn {
     /// The step is due, and nobody has taken it.
     Due,
     /// A worker has taken it. This is what the step asks of the host.
-    Out(Asked),
+    Out(StepRequest),
 }
 
 impl Turn {

@@ -1,6 +1,6 @@
 //! What a roll keeps of its hosts and of the open batch.
 ghost use Rattle.std.specs.Prelude.{◌≡◌, ◌≤◌, true, length, vec_capacity};
-ghost use Rattle.fleet_numbers.specs.NumberLists.{are_below};
+ghost use Rattle.fleet_index.specs.NumberLists.{are_below};
 ghost use Rattle.domains.specs.Ids.{host_numbers};
 ghost use Rattle.event_log.specs.Turns.{is_within};
 

@@ -5,14 +5,14 @@ use Rattle.domains.specs.FleetViews.{FleetView}
 use Rattle.domains.specs.Ids.{host_numbers}
 use Rattle.group_tree.specs.declared.ids.HostId.{HostId}
 use Rattle.recap.specs.PlanText.{plan_text}
-use Rattle.planning.specs.Ends.{end_of}
-use Rattle.planning.specs.declared.end.End.{End}
+use Rattle.plan_command.specs.Ends.{end_of}
+use Rattle.plan_command.specs.declared.end.End.{End}
 use Rattle.batch_plan.specs.declared.answers.Answer.{Answer}
 use Rattle.play_model.specs.declared.play.Play.{Play}
-use Rattle.play_course.specs.PlayPlans.{IsPlanOf}
-use Rattle.planning.specs.PlanTexts.{ArePlaysIn, IsFirstPlan, IsFleetIn, IsPlanIn, IsUnread}
-use Rattle.planning.specs.declared.fault.PlanFault.{PlanFault}
-use Rattle.planning.specs.declared.fault.PlanFault.TheVariants.{Read, Fleet, Playbook, Pattern, Write}
+use Rattle.play_forecast.specs.PlayPlans.{IsPlanOf}
+use Rattle.plan_command.specs.PlanTexts.{ArePlaysIn, IsFirstPlan, IsFleetIn, IsPlanIn, IsUnread}
+use Rattle.plan_command.specs.declared.fault.PlanFault.{PlanFault}
+use Rattle.plan_command.specs.declared.fault.PlanFault.TheVariants.{Read, Fleet, Playbook, Pattern, Write}
 use Rattle.expectations.specs.Expecting.{IsTold, PlansAs, RefusesPlan, RefusesTable}
 use Rattle.expectations.specs.Facts.{Unmet, first_unmet, number_in_plan}
 use Rattle.expectations.specs.Lists.{Expectation}

@@ -6,7 +6,7 @@ use Rattle.std.specs.List.{find}
 use Rattle.std.proofs.lemmas.Bool.{eqb-true, false_from_ne_true}
 use Rattle.std.proofs.lemmas.List.{drop_more, get_or-map, length-map, take_all, take_more}
 use Rattle.group_tree.specs.Names.{Name}
-use Rattle.text_parts.specs.Patterns.{parts_of}
+use Rattle.text_syntax.specs.Patterns.{parts_of}
 use Rattle.expectations.specs.Facts.{Unmet, first_unmet, is_met, unmet_by}
 use Rattle.expectations.specs.Shown.{all_shown, shown, unmet_shown}
 use Rattle.expectations.specs.declared.expectation.Expectation.{Expectation as Kept}

@@ -6,12 +6,12 @@ use Rattle.domains.specs.FleetViews.{FleetView}
 use Rattle.batch_plan.specs.declared.answers.Answer.{Answer}
 use Rattle.recap.specs.LimitsTable.{fleet_table}
 use Rattle.recap.specs.PlanText.{plan_text}
-use Rattle.planning.specs.Ends.{end_of}
-use Rattle.planning.specs.PlanTexts as plans
+use Rattle.plan_command.specs.Ends.{end_of}
+use Rattle.plan_command.specs.PlanTexts as plans
 use Rattle.play_model.specs.declared.play.Play.{Play}
-use Rattle.planning.specs.PlanTexts.{ArePlaysIn, IsFleetIn, IsPlanIn, IsUnread}
-use Rattle.planning.specs.declared.end.End.{End}
-use Rattle.planning.specs.declared.fault.PlanFault.TheVariants.{Read, Fleet, Playbook, Pattern, Write}
+use Rattle.plan_command.specs.PlanTexts.{ArePlaysIn, IsFleetIn, IsPlanIn, IsUnread}
+use Rattle.plan_command.specs.declared.end.End.{End}
+use Rattle.plan_command.specs.declared.fault.PlanFault.TheVariants.{Read, Fleet, Playbook, Pattern, Write}
 use Rattle.expectations.specs.Facts.{Unmet, first_unmet, number_in_plan, number_in_table}
 use Rattle.expectations.specs.Lists.{Expectation}
 use Rattle.expectations.specs.Shown.{unexpected_shown}

@@ -1,8 +1,8 @@
 -- Lists of expectations: `NAME=NUMBER` and `NAME<=NUMBER`, parted as the names of a pattern of hosts are.
 use Rattle.std.specs.Prelude.{ℕ, ◌-◌, Bool, ◌==◌, Option, Some, None, option_and_then, option_map, List, [], ◌∷◌, length, map, slice_index, take, if◌then◌else◌}
 use Rattle.std.specs.List.{after_first, before_first}
-use Rattle.text_parts.specs.Numerals.{number_in_digits}
-use Rattle.text_parts.specs.Patterns.{parts_of}
+use Rattle.text_syntax.specs.Numerals.{number_in_digits}
+use Rattle.text_syntax.specs.Patterns.{parts_of}
 use Rattle.group_tree.specs.Names.{Name, is_name}
 use Rattle.expectations.specs.declared.expectation.Relation.{Relation}
 use Rattle.expectations.specs.declared.expectation.Relation.TheVariants.{Equal, AtMost}

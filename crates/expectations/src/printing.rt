@@ -7,8 +7,8 @@ ghost use Rattle.expectations.specs.Shown.{all_shown, unexpected_shown};
 use crate::expectation::Expectation;
 use crate::judging::{unmet_in_plan, unmet_in_table};
 use crate::unexpected::{ExpectFault, Unexpected, owned};
-use planning::{End, end_of, read_fleet, read_known_plays};
-use play_course::plan_play;
+use plan_command::{End, end_of, read_fleet, read_known_plays};
+use play_forecast::plan_play;
 use recap::{write_limits, write_plan};
 use std::alloc::Global;
 use std::io::Write;
@@ -33,7 +33,7 @@ pub fn expected_limits<W: Write>(
     };
     match write_limits(&fleet, out) {
         Ok(()) => judged(unmet),
-        Err(fault) => Err(ExpectFault::Plan(planning::PlanFault::Write(fault))),
+        Err(fault) => Err(ExpectFault::Plan(plan_command::PlanFault::Write(fault))),
     }
 }
 
@@ -69,7 +69,7 @@ pub fn expected_plan<W: Write>(
             Ok(()) => Ok(end_of(&planned.answer, planned.held.as_slice())),
             Err(fault) => Err(fault),
         },
-        Err(fault) => Err(ExpectFault::Plan(planning::PlanFault::Write(fault))),
+        Err(fault) => Err(ExpectFault::Plan(plan_command::PlanFault::Write(fault))),
     }
 }
 

@@ -8,7 +8,7 @@ use crate::expectation::{Expectation, Relation};
 use crate::fault::ListFault;
 use group_tree::is_name;
 use std::alloc::Global;
-use text_parts::{first_part, number_in_digits};
+use text_syntax::{first_part, number_in_digits};
 
 fn with_name(name: &str, relation: Relation, number: u16) -> Option<Expectation<'_>>
     ensures { option_map shown result ≡ model.with_name name.now relation number }

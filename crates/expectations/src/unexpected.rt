@@ -4,7 +4,7 @@ ghost use Rattle.std.specs.Option.{option_map};
 ghost use Rattle.expectations.specs.Shown.{unexpected_shown, unmet_shown};
 
 use crate::expectation::{Relation, Unmet};
-use planning::PlanFault;
+use plan_command::PlanFault;
 use std::alloc::{AllocError, Global};
 
 /// The name stands for another number than the one that is expected, or for none.

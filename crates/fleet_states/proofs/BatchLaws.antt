@@ -3,11 +3,11 @@ use Rattle.std.proofs.Common.{◌≡◌, ℕ, ◌*◌, ◌<◌, ◌≤◌, Bool,
 use Rattle.std.proofs.lemmas.Bool.{cases_lt, le-ltb}
 use Rattle.std.proofs.lemmas.List.{ext_get_or}
 use Rattle.std.specs.Prelude.{IsFalse, if◌then◌else◌}
-use Rattle.fleet_numbers.specs.NumberLists.{has_number}
+use Rattle.fleet_index.specs.NumberLists.{has_number}
 use Rattle.fleet_states.specs.Statuses.{changed, is_running, is_waiting, status_at}
 use Rattle.fleet_states.specs.declared.status.Status.{Status}
 use Rattle.fleet_states.specs.declared.status.Status.TheVariants.{Idle, Updated, Failed, Halted}
-use Rattle.fleet_numbers.proofs.TestCounts.{count_agree_in, count_none_in}
+use Rattle.fleet_index.proofs.TestCounts.{count_agree_in, count_none_in}
 use Rattle.fleet_states.proofs.StatusLemmas.{length-changed, length-given, status_at-changed, status_at-given, status_at-given_past, status_at-past}
 use Rattle.fleet_states.specs.Batches.{Fails, failed_count, halts_at, halt, is_failed_by, is_past, status_after, statuses_after}
 use Rattle.fleet_states.specs.Laws.{AgreeOn, IsLeastHalt, HaltIsTheLeast, NoneFails, NoneWaitsAfter, OthersDecide, OthersStay, OwnFailuresDecide, UpdatedWhereNoneFails}

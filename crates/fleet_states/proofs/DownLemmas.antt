@@ -2,11 +2,11 @@
 use Rattle.std.proofs.Common.{◌≡◌, ℕ, ◌+◌, ◌≤◌, ◌<◌, Bool, true, false, cond, List, length, set, sym, ap, ◌∙◌, refl, subst, arith, inl, inr, ◌⊎◌}
 use Rattle.std.specs.List.{count_by}
 use Rattle.std.proofs.lemmas.Bool.{both_ways, cases_eq, cases_lt}
-use Rattle.fleet_numbers.specs.NumberLists.{bit, has_number}
+use Rattle.fleet_index.specs.NumberLists.{bit, has_number}
 use Rattle.fleet_states.specs.declared.status.Status.{Status}
 use Rattle.fleet_states.specs.declared.status.Status.TheVariants.{Idle, Running}
 use Rattle.fleet_states.specs.Statuses.{are_distinct, are_ready, changed, down_count, is_down, is_waiting, status_at}
-use Rattle.fleet_numbers.proofs.TestCounts.{count_add, count_agree, count_change, count_le}
+use Rattle.fleet_index.proofs.TestCounts.{count_add, count_agree, count_change, count_le}
 use Rattle.fleet_states.proofs.ReadyLemmas.{ready_waits}
 use Rattle.fleet_states.proofs.StatusLemmas.{status_at-changed, status_at-changed_idle, status_at-changed_past, status_at-past, status_at-set, status_at-set_other, waiting_not_down}
 

@@ -2,12 +2,12 @@
 use Rattle.std.proofs.Common.{◌≡◌, ℕ, zero, suc, ◌<◌, None, [], ◌∷◌, length, get_or, sym, ap, ◌∙◌, subst, arith}
 use Rattle.std.specs.List.{range_with_len}
 use Rattle.std.proofs.lemmas.List.FromFn.{length-map-range_with_len, get_or-map-range_with_len}
-use Rattle.fleet_numbers.specs.NumberLists.{IsRising, are_below, list_at}
-use Rattle.fleet_numbers.proofs.RisingLemmas.{are_below-rising}
+use Rattle.fleet_index.specs.NumberLists.{IsRising, are_below, list_at}
+use Rattle.fleet_index.proofs.RisingLemmas.{are_below-rising}
 use Rattle.domains.specs.FleetViews.{FleetView, IsSound}
 use Rattle.fleet_states.specs.Statuses.{are_distinct}
 use Rattle.fleet_states.specs.Groups.{AreGroups, FleetGroup, IsGroup, groups_of}
-use Rattle.fleet_numbers.proofs.NumberLemmas.{distinct_rising, rising_range}
+use Rattle.fleet_index.proofs.NumberLemmas.{distinct_rising, rising_range}
 
 abbrev pub group_of : FleetView → ℕ → FleetGroup
 group_of fleet group =

@@ -2,8 +2,8 @@
 use Rattle.std.proofs.Common.{◌≡◌, ℕ, ◌<◌, true, List, length, get_or, subst, arith}
 use Rattle.std.proofs.lemmas.List.{get_or-map, length-map}
 use Rattle.group_tree.specs.declared.ids.HostId.{HostId}
-use Rattle.fleet_numbers.specs.NumberLists.{are_below}
-use Rattle.fleet_numbers.proofs.RisingLemmas.{below_at}
+use Rattle.fleet_index.specs.NumberLists.{are_below}
+use Rattle.fleet_index.proofs.RisingLemmas.{below_at}
 use Rattle.domains.specs.Ids.{host_numbers}
 
 pub length-host_numbers : (hosts : List HostId) → length (host_numbers hosts) ≡ length hosts

@@ -4,11 +4,11 @@ use Rattle.std.specs.List.{list_all}
 use Rattle.std.proofs.lemmas.List.{ext_get_or, take_more}
 use Rattle.std.proofs.lemmas.List.Folds.{list_all-append}
 use Rattle.std.proofs.lemmas.Bool.{and_parts, cases_lt, lt-ltb}
-use Rattle.fleet_numbers.specs.NumberLists.{has_number, are_below}
+use Rattle.fleet_index.specs.NumberLists.{has_number, are_below}
 use Rattle.fleet_states.specs.declared.status.Status.{Status}
 use Rattle.fleet_states.specs.declared.status.Status.TheVariants.{Idle, Waiting, Running}
 use Rattle.fleet_states.specs.Statuses.{are_distinct, are_ready, changed, is_waiting, status_at}
-use Rattle.fleet_numbers.proofs.NumberLemmas.{are_distinct-push, list_all_number}
+use Rattle.fleet_index.proofs.NumberLemmas.{are_distinct-push, list_all_number}
 use Rattle.fleet_states.proofs.StatusLemmas.{is_waiting-true, length-changed, status_at-changed, status_at-changed_past, status_at-past, waiting_within}
 
 pub ready_waits : (statuses : List Status) (hosts : List ℕ) (host : ℕ) → are_ready statuses hosts ≡ true → has_number host hosts ≡ true → is_waiting (status_at statuses host) ≡ true

@@ -6,8 +6,8 @@ use Rattle.fleet_states.specs.declared.status.Status.{Status}
 use Rattle.fleet_states.specs.declared.status.Status.TheVariants.{Idle, Running}
 use Rattle.fleet_states.specs.Statuses.{are_ready, changed, down_count, is_down, status_at}
 use Rattle.fleet_states.specs.Groups.{FleetGroup, Fits, IsSafe, is_full_for, is_over, members_among, room}
-use Rattle.fleet_numbers.specs.NumberLists.{bit}
-use Rattle.fleet_numbers.proofs.TestCounts.{count_none}
+use Rattle.fleet_index.specs.NumberLists.{bit}
+use Rattle.fleet_index.proofs.TestCounts.{count_none}
 use Rattle.fleet_states.proofs.DownLemmas.{down_count-changed, down_count-opened, down_count-set_same}
 
 exceeds_none : (limit : Option ℕ) → exceeds limit 0 ≡ false

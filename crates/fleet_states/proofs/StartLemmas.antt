@@ -3,7 +3,7 @@ use Rattle.std.proofs.Common.{◌≡◌, ℕ, ◌≤◌, ◌<◌, Bool, true, fa
 use Rattle.std.proofs.lemmas.Bool.{cases_lt, le-ltb}
 use Rattle.std.proofs.lemmas.List.{get_or_past}
 use Rattle.std.proofs.lemmas.List.FromFn.{length-map-range_with_len, get_or-map-range_with_len}
-use Rattle.fleet_numbers.specs.NumberLists.{has_number, list_at}
+use Rattle.fleet_index.specs.NumberLists.{has_number, list_at}
 use Rattle.domains.specs.FleetViews.{FleetView, IsSound, off_count}
 use Rattle.domains.specs.Starts.{exceeds}
 use Rattle.fleet_states.specs.declared.status.Status.{Status}
@@ -11,7 +11,7 @@ use Rattle.fleet_states.specs.declared.status.Status.TheVariants.{Idle}
 use Rattle.fleet_states.specs.Statuses.{down_count, is_down, is_running, status_at}
 use Rattle.fleet_states.specs.Groups.{FleetGroup, is_over}
 use Rattle.fleet_states.specs.Starts.{StartsAtRest, StartsSafe, start_status, start_statuses}
-use Rattle.fleet_numbers.proofs.TestCounts.{count_agree}
+use Rattle.fleet_index.proofs.TestCounts.{count_agree}
 use Rattle.fleet_states.proofs.StatusLemmas.{status_at-past}
 use Rattle.fleet_states.proofs.GroupLemmas.{get_or-groups_of, length-groups_of}
 

@@ -5,12 +5,12 @@ use Rattle.std.proofs.lemmas.List.{ext_get_or, get_or_past, get_or-set_same, get
 use Rattle.std.proofs.lemmas.List.FromFn.{length-map-range_with_len, get_or-map-range_with_len}
 use Rattle.std.proofs.lemmas.Bool.{cases_eq, cases_lt, both_ways}
 use Rattle.group_tree.specs.declared.ids.HostId.{HostId}
-use Rattle.fleet_numbers.specs.NumberLists.{has_number}
+use Rattle.fleet_index.specs.NumberLists.{has_number}
 use Rattle.fleet_states.specs.declared.status.Status.{Status}
 use Rattle.fleet_states.specs.declared.status.Status.TheVariants.{Idle, Waiting, Running, Updated, Failed, Halted, Off, Held}
 use Rattle.domains.specs.Ids.{host_numbers}
 use Rattle.fleet_states.specs.Statuses.{NobodyRuns, changed, is_down, is_running, is_waiting, status_at}
-use Rattle.fleet_numbers.proofs.NumberLemmas.{has_other, has_own}
+use Rattle.fleet_index.proofs.NumberLemmas.{has_other, has_own}
 use Rattle.fleet_states.proofs.HostLemmas.{length-host_numbers, number_of_host}
 
 pub waiting_not_down : (s : Status) → is_waiting s ≡ true → is_down s ≡ false

@@ -1,7 +1,7 @@
 -- Groups of hosts by their numbers, and how many of a group's members may be down at once.
 use Rattle.std.specs.Prelude.{◌≡◌, ℕ, ◌-◌, Bool, true, false, Option, None, option_map, List, [], ◌∷◌, map, All, count_by, length, slice_index_or}
 use Rattle.std.specs.List.{list_any, range_with_len}
-use Rattle.fleet_numbers.specs.NumberLists.{are_below, has_number, list_at}
+use Rattle.fleet_index.specs.NumberLists.{are_below, has_number, list_at}
 use Rattle.domains.specs.FleetViews.{FleetView}
 use Rattle.domains.specs.Starts.{exceeds}
 use Rattle.fleet_states.specs.declared.status.Status.{Status}
@@ -57,5 +57,5 @@ abbrev pub Fits : List FleetGroup → List Status → List ℕ → Type 0
 Fits groups statuses hosts = All (λ group. is_full_for statuses hosts group ≡ false) groups
 
 -- some group that holds the host has no room for it
-abbrev pub is_stuck : List FleetGroup → List Status → ℕ → Bool
-is_stuck groups statuses host = list_any (is_full_for statuses (host ∷ [])) groups
+abbrev pub lacks_room : List FleetGroup → List Status → ℕ → Bool
+lacks_room groups statuses host = list_any (is_full_for statuses (host ∷ [])) groups

@@ -1,6 +1,6 @@
 -- Laws of halts and of what becomes of a batch's hosts.
 use Rattle.std.specs.Prelude.{◌≡◌, ℕ, ◌<◌, IsTrue, IsFalse, Option, Some, None, List, length}
-use Rattle.fleet_numbers.specs.NumberLists.{has_number}
+use Rattle.fleet_index.specs.NumberLists.{has_number}
 use Rattle.fleet_states.specs.Statuses.{changed, is_running, is_waiting, status_at}
 use Rattle.fleet_states.specs.declared.status.Status.{Status}
 use Rattle.fleet_states.specs.declared.status.Status.TheVariants.{Updated}

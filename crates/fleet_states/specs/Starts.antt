@@ -1,7 +1,7 @@
 -- The statuses of a fleet's hosts when a run starts.
 use Rattle.std.specs.Prelude.{ℕ, Bool, true, false, List, map, length, slice_index_or}
 use Rattle.std.specs.List.{range_with_len}
-use Rattle.fleet_numbers.specs.NumberLists.{has_number}
+use Rattle.fleet_index.specs.NumberLists.{has_number}
 use Rattle.domains.specs.FleetViews.{FleetView}
 use Rattle.fleet_states.specs.declared.status.Status.{Status}
 use Rattle.fleet_states.specs.declared.status.Status.TheVariants.{Idle, Waiting, Off}

@@ -1,8 +1,8 @@
 -- The statuses of hosts, found by the hosts' numbers.
 use Rattle.std.specs.Prelude.{◌≡◌, ℕ, Bool, true, false, ◌&&◌, List, All, cond, map, length, count_by, slice_index_or}
 use Rattle.std.specs.List.{list_all, range_with_len}
-pub use Rattle.fleet_numbers.specs.NumberLists.{are_distinct}
-use Rattle.fleet_numbers.specs.NumberLists.{has_number}
+pub use Rattle.fleet_index.specs.NumberLists.{are_distinct}
+use Rattle.fleet_index.specs.NumberLists.{has_number}
 use Rattle.fleet_states.specs.declared.status.Status.{Status}
 use Rattle.fleet_states.specs.declared.status.Status.TheVariants.{Idle, Waiting, Running, Updated, Failed, Halted, Off, Held}
 

@@ -1,6 +1,6 @@
 //! How many hosts of a batch have failed.
 ghost use Rattle.std.specs.Prelude.{◌≡◌, slice_index_or, None};
-ghost use Rattle.fleet_numbers.specs.Ids.{host_numbers};
+ghost use Rattle.fleet_index.specs.Ids.{host_numbers};
 ghost use Rattle.fleet_states.specs.Batches as spec;
 ghost use Rattle.fleet_states.specs.Batches.{fails_in};
 

@@ -1,6 +1,6 @@
 //! What becomes of the hosts of a batch.
 ghost use Rattle.std.specs.Prelude.{◌≡◌};
-ghost use Rattle.fleet_numbers.specs.Ids.{host_numbers};
+ghost use Rattle.fleet_index.specs.Ids.{host_numbers};
 ghost use Rattle.fleet_states.specs.Batches as spec;
 ghost use Rattle.fleet_states.specs.Batches.{fails_in, statuses_after};
 

@@ -1,6 +1,6 @@
 //! When a batch halts.
 ghost use Rattle.std.specs.Prelude.{◌≡◌, ◌≤◌, ◌*◌, nat_lt, Some};
-ghost use Rattle.fleet_numbers.specs.Ids.{host_numbers};
+ghost use Rattle.fleet_index.specs.Ids.{host_numbers};
 ghost use Rattle.fleet_states.specs.Batches as spec;
 ghost use Rattle.fleet_states.specs.Batches.{fails_in};
 

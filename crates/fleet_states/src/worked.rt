@@ -2,7 +2,7 @@
 ghost use Rattle.std.specs.Prelude.{◌≡◌, IsTrue, IsFalse, None, Some, [], ◌∷◌, map, true, false};
 ghost use Rattle.fleet_states.specs.declared.status.Status.TheVariants.{Idle, Waiting, Running, Updated, Failed, Halted, Off, Held};
 ghost use Rattle.fleet_states.specs.Statuses.{are_ready, changed, down_count, is_down, is_running, is_waiting, waiting_count};
-ghost use Rattle.fleet_states.specs.Groups.{FleetGroup, group_at, groups_of, is_full_for, is_over, is_stuck, members_among, room};
+ghost use Rattle.fleet_states.specs.Groups.{FleetGroup, group_at, groups_of, is_full_for, is_over, lacks_room, members_among, room};
 ghost use Rattle.fleet_states.specs.Starts.{start_statuses};
 ghost use Rattle.fleet_states.specs.Worked.{two_racks};
 
@@ -39,9 +39,9 @@ fn a_batch_fits_within_the_room()
 
 /// A host without room in one of its groups is stuck, whatever room the others have.
 fn a_host_is_stuck_in_a_group_without_room()
-    ensures stuck { IsTrue (is_stuck (groups_of two_racks) (Waiting ∷ Off ∷ Waiting ∷ Waiting ∷ []) 3) }
-    ensures room { IsFalse (is_stuck (groups_of two_racks) (Waiting ∷ Off ∷ Waiting ∷ Waiting ∷ []) 0) }
-    ensures past { IsFalse (is_stuck (groups_of two_racks) (Waiting ∷ Off ∷ Waiting ∷ Waiting ∷ []) 4) }
+    ensures stuck { IsTrue (lacks_room (groups_of two_racks) (Waiting ∷ Off ∷ Waiting ∷ Waiting ∷ []) 3) }
+    ensures room { IsFalse (lacks_room (groups_of two_racks) (Waiting ∷ Off ∷ Waiting ∷ Waiting ∷ []) 0) }
+    ensures past { IsFalse (lacks_room (groups_of two_racks) (Waiting ∷ Off ∷ Waiting ∷ Waiting ∷ []) 4) }
 {}
 
 /// A host that stands twice, or does not wait, or does not exist makes no batch.

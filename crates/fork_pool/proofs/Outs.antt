@@ -2,8 +2,8 @@
 use Rattle.std.proofs.Common.{◌≡◌, ℕ, suc, Bool, true, false, not, ◌&&◌, nat_eq, None, List, [], ◌∷◌, length, ap, ◌∙◌, refl, arith}
 use Rattle.std.specs.List.{find}
 use Rattle.std.proofs.lemmas.Bool.{and_from}
-use Rattle.fleet_numbers.specs.NumberLists.{has_number}
-use Rattle.fleet_numbers.proofs.ChainLemmas.{found_none}
+use Rattle.fleet_index.specs.NumberLists.{has_number}
+use Rattle.fleet_index.proofs.ChainLemmas.{found_none}
 use Rattle.fleet_states.specs.Statuses.{are_distinct}
 use Rattle.fleet_states.proofs.CountLemmas.{count_none_in}
 use Rattle.event_log.specs.Rolls.{Roll}

@@ -1,6 +1,6 @@
 -- What stays of a pool while it is at work.
 use Rattle.std.specs.Prelude.{◌≡◌}
-use Rattle.ticket_line.specs.Ends.{PutView}
+use Rattle.ticket_channel.specs.Ends.{PutView}
 use Rattle.fork_pool.specs.declared.ticket.Ticket.{Ticket}
 
 -- it is the same line, with as much room and as many ends that take

@@ -9,12 +9,12 @@ use crate::ticket::Ticket;
 use crossbeam_channel::Receiver;
 use roll_core::Runner;
 use std::alloc::Global;
-use ticket_line::PutEnd;
+use ticket_channel::ChannelSender;
 
 /// The end of a pool that its coordinator holds. Once it is dropped the workers end, as soon as no ticket is left.
 #[derive(Drop)]
 pub struct Front<'f, R: Runner> {
-    tickets: PutEnd<Ticket>,
+    tickets: ChannelSender<Ticket>,
     replies: Receiver<Reply<'f, R>, Global>,
     forks: usize,
     ghost some: { 0 < forks },
@@ -22,7 +22,7 @@ pub struct Front<'f, R: Runner> {
 
 impl<'f, R: Runner> Front<'f, R> {
     pub(crate) fn new(
-        tickets: PutEnd<Ticket>,
+        tickets: ChannelSender<Ticket>,
         replies: Receiver<Reply<'f, R>, Global>,
         forks: usize,
     ) -> Front<'f, R>

@@ -1,16 +1,16 @@
 //! Making a pool.
 ghost use Rattle.std.specs.Prelude.{◌≡◌, ◌<◌, All, IfOk, map, vec_len};
 ghost use Rattle.std.specs.List.{range_with_len};
-ghost use Rattle.ticket_line.specs.Ends.{new_put, new_take};
+ghost use Rattle.ticket_channel.specs.Ends.{new_put, new_take};
 
 use crate::front::Front;
-use crate::owed::Taker;
+use crate::pending_reply::TicketReceiver;
 use crate::reply::Reply;
 use crate::worker_end::WorkerEnd;
 use crossbeam_channel::bounded;
 use roll_core::Runner;
 use std::alloc::{AllocError, Global};
-use ticket_line::line;
+use ticket_channel::line;
 
 /// A pool of so many workers: the end of its coordinator, and one end a worker, by their places. All memory that its channels need
 /// is taken here.
@@ -28,7 +28,7 @@ pub fn pool<'f, R: Runner>(
     let (reply, replies) = bounded(alloc, forks)?;
     let mut ends = Vec::with_capacity(alloc, forks)?;
     for take_end in take_ends {
-        let taker = Taker::new(ends.len(), take_end);
+        let taker = TicketReceiver::new(ends.len(), take_end);
         ends.push(WorkerEnd {
             taker,
             replies: reply.clone()?,

@@ -8,7 +8,7 @@ use crate::fault::StepFault;
 use crate::front::Front;
 use crate::making::pool;
 use crate::worker_end::{WorkerEnd, serve};
-use roll_core::{Board, Runner, Watch};
+use roll_core::{Board, Observer, Runner};
 use std::alloc::Global;
 use std::process::{Processes, SystemProcess};
 use std::sync::Wait;
@@ -23,7 +23,7 @@ pub fn run_step<
     R: Runner,
     L: Ledger,
     H: Threads + Wait + Processes<Started = SystemProcess> + Sync,
-    W: Watch,
+    W: Observer,
 >(
     rt: &H,
     alloc: Global,
@@ -58,7 +58,7 @@ fn with_workers<
     R: Runner,
     L: Ledger,
     H: Threads + Wait + Processes<Started = SystemProcess> + Sync,
-    W: Watch,
+    W: Observer,
 >(
     rt: &H,
     alloc: Global,
@@ -104,7 +104,7 @@ fn with_workers<
 }
 
 /// A step on a board that lives as long as the pool.
-fn step_alone<'f, R: Runner, L: Ledger, H: Wait, W: Watch>(
+fn step_alone<'f, R: Runner, L: Ledger, H: Wait, W: Observer>(
     rt: &H,
     alloc: Global,
     front: &mut Front<'f, R>,
@@ -122,7 +122,7 @@ fn step_alone<'f, R: Runner, L: Ledger, H: Wait, W: Watch>(
 }
 
 /// The board, whichever way the step ended.
-fn board_of<'f, R: Runner, L: Ledger, W: Watch>(
+fn board_of<'f, R: Runner, L: Ledger, W: Observer>(
     answer: Result<Board<'f, R, L, W>, (StepFault, Board<'f, R, L, W>)>,
 ) -> Board<'f, R, L, W>
     ensures { result ≡ board_in answer.entry }

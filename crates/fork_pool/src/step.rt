@@ -11,19 +11,19 @@ use crate::given::Given;
 use crate::notes::Notes;
 use crate::reply::Reply;
 use crate::ticket::Ticket;
-use roll_core::{Board, Claim, Claimed, Done, Runner, Tally, Watch};
+use roll_core::{Board, Claim, Claimed, Done, Observer, Runner, Tally};
 use std::alloc::Global;
 use std::sync::ledger::Ledger;
 
 /// A board on whose step workers are at work. One tally counts its reports: the coordinator makes them all.
-pub(crate) struct Step<'b, R: Runner, L: Ledger, W: Watch> {
+pub(crate) struct Step<'b, R: Runner, L: Ledger, W: Observer> {
     board: Board<'b, R, L, W>,
     tally: Tally<L>,
     notes: Notes,
     ghost under_way: { IsUnderWay board notes },
 }
 
-impl<'b, R: Runner, L: Ledger, W: Watch> Step<'b, R, L, W> {
+impl<'b, R: Runner, L: Ledger, W: Observer> Step<'b, R, L, W> {
     pub(crate) fn begin(mut board: Board<'b, R, L, W>) -> Step<'b, R, L, W>
         requires { board.tallies ≡ 0 }
         ensures board { result.board ≡ record board.entry { tallies = 1 } }

@@ -1,6 +1,6 @@
 //! What a worker is given.
 ghost use Rattle.std.specs.Prelude.{◌≡◌, IfErr, IfOk};
-ghost use Rattle.roll_core.specs.Leaves.{IsGoOf};
+ghost use Rattle.roll_core.specs.RunPermits.{IsGoOf};
 ghost use Rattle.fork_pool.specs.Replies.{IsEndOf};
 
 use roll_core::{Claim, Done, Go, Runner};

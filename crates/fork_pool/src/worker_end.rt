@@ -1,7 +1,7 @@
 //! The end of a pool that works.
 ghost use Rattle.std.specs.Prelude.{◌≡◌, ◌≤◌, suc, length, MatchBool};
 
-use crate::owed::Taker;
+use crate::pending_reply::TicketReceiver;
 use crate::reply::Reply;
 use crate::ticket::Ticket;
 use crossbeam_channel::Sender;
@@ -10,12 +10,12 @@ use std::alloc::Global;
 use std::process::{Processes, SystemProcess};
 use std::sync::Wait;
 use std::thread::Threads;
-use ticket_line::Taken;
+use ticket_channel::Taken;
 
 /// What one worker of a pool holds: its end of the line of tickets, with its place, and its end of the channel for replies.
 #[derive(Drop)]
 pub struct WorkerEnd<'f, R: Runner> {
-    pub(crate) taker: Taker,
+    pub(crate) taker: TicketReceiver,
     pub(crate) replies: Sender<Reply<'f, R>, Global>,
 }
 

@@ -5,7 +5,7 @@ use crate::conditions::show_at;
 use crate::steps::step_at;
 use serde_json::Value;
 use std::alloc::{AllocError, Global};
-use text_parts::{Part, check_word, elements_of, first_word_part};
+use text_syntax::{Part, check_word, elements_of, first_word_part};
 
 const RULE: &str =
     "only {{ name }} and {{ name.field }} are allowed; use a script for filters, {% and {#";

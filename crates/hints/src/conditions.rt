@@ -6,11 +6,11 @@ use crate::line::{LONGEST_LINE, MEMORY, first, last, print};
 use crate::rows::find_start;
 use crate::steps::step_at;
 use cond::{CondFault, parse};
-use near_names::nearest;
-use play_rules::ConditionKey;
+use name_suggestions::nearest;
+use playbook_schema::ConditionKey;
 use serde_json::Value;
 use std::alloc::{AllocError, Global};
-use text_parts::listed;
+use text_syntax::listed;
 
 // How much of a condition is shown on each side of a place, at most and in bytes.
 const ASIDE: usize = 30;

@@ -1,6 +1,6 @@
 //! Hints on names.
 use crate::line::{first, print, shown};
-use near_names::nearest;
+use name_suggestions::nearest;
 use std::alloc::{AllocError, Global};
 
 // How much of a name is shown, in bytes.

@@ -7,7 +7,7 @@ use crate::names::unknown_name;
 use domains::PatternFault;
 use serde_json::Value;
 use std::alloc::{AllocError, Global};
-use text_parts::listed;
+use text_syntax::listed;
 
 // How much of a pattern is shown, in bytes.
 const SHOWN: usize = 25;

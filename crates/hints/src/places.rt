@@ -5,7 +5,7 @@ ghost use Rattle.serde_json.specs.View.{members_view, view};
 
 use serde_json::{Map, Value};
 use std::alloc::{AllocError, Global};
-use text_parts::entries_of;
+use text_syntax::entries_of;
 
 /// A group where it is written.
 #[derive(Clone, Copy)]

@@ -10,7 +10,7 @@ use crate::keys::play_key;
 use crate::line::{MEMORY, tell};
 use crate::not_json::not_json;
 use crate::shapes::play_shape;
-use play_rules::PlayFault;
+use playbook_schema::PlayFault;
 use std::alloc::{AllocError, Global};
 
 const YAML: &str =

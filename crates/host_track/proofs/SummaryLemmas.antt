@@ -11,7 +11,7 @@ use Rattle.play_model.specs.declared.registered.Registered.{Registered}
 use Rattle.host_vars.specs.Layers.{HostView}
 use Rattle.host_vars.specs.HostVars.{variables_of, result_in}
 use Rattle.host_vars.specs.declared.vars.Vars.{Vars}
-use Rattle.fleet_numbers.specs.NumberLists.{has_number}
+use Rattle.fleet_index.specs.NumberLists.{has_number}
 use Rattle.play_model.specs.declared.play.Play.{Play}
 use Rattle.play_model.specs.declared.step.Step.{Step}
 use Rattle.host_track.specs.Hosts.{Known, known_of, with_result, is_called}

@@ -1,17 +1,17 @@
 -- What a step asks of a host before a program runs.
 use Rattle.std.specs.Prelude.{ℕ, true, false, nat_lt, Option, Some, None, Ok, Err, List, [], ◌∷◌, length, map, string_bytes, if◌then◌else◌}
 use Rattle.cond.specs.Meaning.{Environment, Verdict}
-use Rattle.text_parts.specs.Words.{parts_of}
-use Rattle.text_parts.specs.Renders.{Values, first_undefined, rendered}
-use Rattle.text_parts.specs.Faults.{max_rendered}
+use Rattle.text_syntax.specs.Words.{parts_of}
+use Rattle.text_syntax.specs.Renders.{Values, first_undefined, rendered}
+use Rattle.text_syntax.specs.Faults.{max_rendered}
 use Rattle.group_tree.specs.Names.{Name}
 use Rattle.play_model.specs.declared.step.Step.{Step}
 use Rattle.host_track.specs.Hosts.{Known, environment_in, values_in}
 use Rattle.host_track.specs.Endings as ending
 use Rattle.host_track.specs.Endings.{Ending, ending_of}
 use Rattle.host_track.specs.Judging.{decided}
-use Rattle.host_track.specs.declared.asked.Asked.{Asked}
-use Rattle.host_track.specs.declared.asked.Asked.TheVariants as asked
+use Rattle.host_track.specs.declared.step_request.StepRequest.{StepRequest}
+use Rattle.host_track.specs.declared.step_request.StepRequest.TheVariants as asked
 use Rattle.host_track.specs.declared.wording.Wording.{Wording}
 use Rattle.host_track.specs.declared.wording.Wording.TheVariants as wording
 
@@ -25,7 +25,7 @@ pub data Word : Type 0 where
   text : List ℕ → Word
   ended : Ending → Word
 
-abbrev pub asked_as : Asked → Request
+abbrev pub asked_as : StepRequest → Request
 asked_as (asked.Job words) = job (map string_bytes words.items)
 asked_as (asked.Settled outcome) = settled (ending_of outcome)
 

@@ -1,7 +1,7 @@
 -- What one host does in a play, by itself. Steps are counted from 0, handlers from 0 behind the tasks.
 use Rattle.std.specs.Prelude.{ℕ, zero, suc, ◌-◌, nat_lt, Bool, not, ◌&&◌, ◌||◌, Option, Some, None, List, [], ◌∷◌, ◌++◌, length, map, slice_get, if◌then◌else◌}
 use Rattle.std.specs.List.{list_any}
-use Rattle.fleet_numbers.specs.NumberLists.{has_number}
+use Rattle.fleet_index.specs.NumberLists.{has_number}
 use Rattle.play_model.specs.declared.step.Step.{Step}
 use Rattle.play_model.specs.declared.play.Play.{Play}
 use Rattle.host_track.specs.Hosts.{Known, with_result}

@@ -6,8 +6,8 @@ ghost use Rattle.host_track.specs.Hosts.{known_of, environment_in, values_in};
 ghost use Rattle.host_track.specs.Asking as spec;
 ghost use Rattle.host_track.specs.Asking.{asks, asked_as};
 
-use crate::asked::Asked;
 use crate::outcome::Outcome;
+use crate::step_request::StepRequest;
 use crate::wording::{Wording, worded};
 use cond::{Undefined, eval};
 use host_vars::Vars;
@@ -15,16 +15,16 @@ use play_model::Step;
 use std::alloc::{AllocError, Global};
 
 /// What the step asks of the host with these variables and results. It fails for want of memory alone.
-pub fn ask(alloc: Global, step: &Step, vars: &Vars) -> Result<Asked, AllocError>
+pub fn ask(alloc: Global, step: &Step, vars: &Vars) -> Result<StepRequest, AllocError>
     requires { HasPlainWords step.now }
     ensures { IfOk result (λ asked. asked_as asked ≡ asks (known_of vars.now) step.now) }
 {
     match is_to_run(step, vars) {
         Ok(true) => words_for(alloc, step, vars),
-        Ok(false) => Ok(Asked::Settled(Outcome::Skipped)),
+        Ok(false) => Ok(StepRequest::Settled(Outcome::Skipped)),
         Err(undefined) => {
             let name = String::from_str(alloc, undefined.name)?;
-            Ok(Asked::Settled(Outcome::Undefined { name }))
+            Ok(StepRequest::Settled(Outcome::Undefined { name }))
         }
     }
 }
@@ -38,7 +38,7 @@ fn is_to_run<'s>(step: &'s Step, vars: &Vars) -> Result<bool, Undefined<'s>>
     }
 }
 
-fn words_for(alloc: Global, step: &Step, vars: &Vars) -> Result<Asked, AllocError>
+fn words_for(alloc: Global, step: &Step, vars: &Vars) -> Result<StepRequest, AllocError>
     requires { HasPlainWords step.now }
     ensures { IfOk result (λ asked. asked_as asked
         ≡ spec.words_asked (values_in (known_of vars.now)) step.now.words) }
@@ -47,8 +47,8 @@ fn words_for(alloc: Global, step: &Step, vars: &Vars) -> Result<Asked, AllocErro
     for place in 0..step.words.len() {
         match worded(alloc, step.words.at(place), vars)? {
             Wording::Text(text) => words.push(text)?,
-            Wording::Settled(outcome) => return Ok(Asked::Settled(outcome)),
+            Wording::Settled(outcome) => return Ok(StepRequest::Settled(outcome)),
         }
     }
-    Ok(Asked::Job { words })
+    Ok(StepRequest::Job { words })
 }

@@ -1,6 +1,6 @@
 //! What a row changes on its host.
 ghost use Rattle.std.specs.Prelude.{◌≡◌, ℕ, ◌<◌, ◌&&◌, ◌||◌, true, IfOk, OnOk, length};
-ghost use Rattle.fleet_numbers.specs.NumberLists.{has_number};
+ghost use Rattle.fleet_index.specs.NumberLists.{has_number};
 ghost use Rattle.play_model.specs.Results.{row_of};
 ghost use Rattle.host_track.specs.Hosts.{known_of, with_result};
 ghost use Rattle.host_track.specs.Endings.{Ending, ending_of};

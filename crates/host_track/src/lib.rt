@@ -1,7 +1,6 @@
 //! What one host does in a play: what a step asks of it, how its end is judged, what it has registered.
 #![tactic(auto)]
 
-mod asked;
 mod asking;
 mod counts;
 mod entering;
@@ -13,12 +12,12 @@ mod laws;
 mod outcome;
 mod place;
 mod registers;
+mod step_request;
 mod summary;
 mod trial;
 mod undefined;
 mod wording;
 
-pub use asked::Asked;
 pub use asking::ask;
 pub use counts::Counts;
 pub use entering::copy_for;
@@ -33,5 +32,6 @@ pub use laws::{
 pub use outcome::Outcome;
 pub use place::step_at;
 pub use registers::registers_of;
+pub use step_request::StepRequest;
 pub use summary::Summary;
 pub use undefined::undefined_name;

@@ -10,13 +10,13 @@ ghost use Rattle.host_track.specs.Tracks as spec;
 ghost use Rattle.host_track.specs.Tracks.{Entry, known_after, step_at, entry_of};
 ghost use Rattle.host_track.specs.Summaries.{Shows, HasPlaceFor, IsCopyFor, mark_at, shows_due};
 
-use crate::asked::Asked;
 use crate::asking::ask;
 use crate::counts::Counts;
 use crate::entering::{either, notify, register, reserve};
 use crate::finding::Finding;
 use crate::judging::judge;
 use crate::outcome::Outcome;
+use crate::step_request::StepRequest;
 use host_vars::Vars;
 use play_model::{Play, Registered, Step};
 use std::alloc::{AllocError, Global};
@@ -73,7 +73,7 @@ impl Summary {
 
     /// What the step asks of the host, and a place for its result, so that `enter` takes no memory. Nothing else is
     /// changed, also where memory is refused.
-    pub fn ask(&mut self, alloc: Global, step: &Step) -> Result<Asked, AllocError>
+    pub fn ask(&mut self, alloc: Global, step: &Step) -> Result<StepRequest, AllocError>
         requires { HasPlainWords step.now }
         ensures asked { (play : plays.Play) (start : Known) (entries : List Entry) → Shows play start entries self.old
             → IfOk result (λ asked. asked_as asked ≡ asks (known_after play start entries) step.now) }

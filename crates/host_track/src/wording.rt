@@ -1,6 +1,6 @@
 //! One word of a step, for a host.
 ghost use Rattle.std.specs.Prelude.{◌≡◌, IfOk, IsFalse};
-ghost use Rattle.text_parts.specs.Words.{has_braces};
+ghost use Rattle.text_syntax.specs.Words.{has_braces};
 ghost use Rattle.host_track.specs.Hosts.{known_of, values_in};
 ghost use Rattle.host_track.specs.Asking as spec;
 ghost use Rattle.host_track.specs.Asking.{worded_as};

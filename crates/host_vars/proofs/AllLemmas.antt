@@ -9,8 +9,8 @@ use Rattle.std.proofs.lemmas.List.Elements.{filter-append}
 use Rattle.std.proofs.lemmas.List.Folds.{flat_map-map}
 use Rattle.std.proofs.lemmas.Simd.{map-map}
 use Rattle.std.proofs.lemmas.List.FromFn.{fill_by_all, length-range_with_len, get_or-range_with_len, get_or-map-range_with_len}
-use Rattle.fleet_numbers.specs.NumberLists.{list_at, has_number, numbers_where, IsRising}
-use Rattle.fleet_numbers.proofs.RisingLemmas.{are_below-rising, below_at}
+use Rattle.fleet_index.specs.NumberLists.{list_at, has_number, numbers_where, IsRising}
+use Rattle.fleet_index.proofs.RisingLemmas.{are_below-rising, below_at}
 use Rattle.group_tree.specs.Names.{Name, same_name}
 use Rattle.group_tree.specs.Variables.{Variable, value_of}
 use Rattle.group_tree.specs.Places.{Inventory}

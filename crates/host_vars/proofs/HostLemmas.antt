@@ -12,9 +12,9 @@ use Rattle.std.proofs.lemmas.List.Elements.{filter-append}
 use Rattle.std.proofs.lemmas.List.FromFn.{fill_by_all}
 use Rattle.std.proofs.lemmas.List.Sorted.{IsPermutation-map}
 use Rattle.std.proofs.lemmas.Simd.{map-map}
-use Rattle.fleet_numbers.specs.NumberLists.{list_at, has_number, numbers_where}
-use Rattle.fleet_numbers.proofs.RisingLemmas.{has_number-numbers_where}
-use Rattle.fleet_numbers.proofs.DealLemmas.{in_range}
+use Rattle.fleet_index.specs.NumberLists.{list_at, has_number, numbers_where}
+use Rattle.fleet_index.proofs.RisingLemmas.{has_number-numbers_where}
+use Rattle.fleet_index.proofs.DealLemmas.{in_range}
 use Rattle.group_tree.specs.Names.{Name, same_name}
 use Rattle.group_tree.specs.Variables.{Scalar, Variable, value_of}
 use Rattle.group_tree.specs.Places.{Place, Row, Inventory}

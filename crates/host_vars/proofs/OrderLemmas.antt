@@ -8,8 +8,8 @@ use Rattle.std.specs.declared.cmp.Ordering.TheVariants.{Less, Equal, Greater}
 use Rattle.std.specs.Cmp.Lexicographic.{slice_cmp}
 use Rattle.std.proofs.lemmas.List.{get_or-map, get_or_default, length-map, map-append}
 use Rattle.std.proofs.lemmas.List.Sorted.{IsPermutation-map, All-permutation}
-use Rattle.fleet_numbers.proofs.DealLemmas.{in_range}
-use Rattle.fleet_numbers.proofs.RisingLemmas.{range_on}
+use Rattle.fleet_index.proofs.DealLemmas.{in_range}
+use Rattle.fleet_index.proofs.RisingLemmas.{range_on}
 use Rattle.group_tree.specs.Names.{Name}
 use Rattle.group_tree.specs.Subtrees.{Subtree}
 use Rattle.host_vars.specs.Walked.{no_subtree, walked_at, walked_cmp, IsInOrder}

@@ -3,9 +3,9 @@ use Rattle.std.proofs.Common.{◌≡◌, ℕ, zero, suc, ◌+◌, ◌<◌, Bool,
 use Rattle.std.proofs.Math.Bool.{or-false}
 use Rattle.std.proofs.lemmas.Grind.{flat_map-append}
 use Rattle.std.proofs.lemmas.List.{get_or-map, take_more}
-use Rattle.fleet_numbers.specs.NumberLists.{has_number, IsRising}
-use Rattle.fleet_numbers.proofs.NumberLemmas.{nat_eq_sym}
-use Rattle.fleet_numbers.proofs.RisingLemmas.{rising_is}
+use Rattle.fleet_index.specs.NumberLists.{has_number, IsRising}
+use Rattle.fleet_index.proofs.NumberLemmas.{nat_eq_sym}
+use Rattle.fleet_index.proofs.RisingLemmas.{rising_is}
 use Rattle.group_tree.specs.Names.{Name, same_name, is_among}
 use Rattle.group_tree.specs.Variables.{Variable}
 use Rattle.group_tree.specs.Subtrees.{Host}

@@ -11,8 +11,8 @@ use Rattle.std.proofs.lemmas.Bool.{cases_eq}
 use Rattle.std.proofs.lemmas.List.{get_or-drop, get_or-take, get_or_default, length-drop, length-take, take-append-drop, take_all, take_more, map-append}
 use Rattle.std.proofs.lemmas.List.Elements.{filter_agree}
 use Rattle.std.proofs.lemmas.List.Sorted.{ranks_by, searchable_from_sorted}
-use Rattle.fleet_numbers.specs.SortedNames.{name_cmp}
-use Rattle.fleet_numbers.proofs.SortedNamesLemmas.{same_name-true, same_name-itself, equal_names}
+use Rattle.fleet_index.specs.SortedNames.{name_cmp}
+use Rattle.fleet_index.proofs.SortedNamesLemmas.{same_name-true, same_name-itself, equal_names}
 use Rattle.group_tree.specs.Names.{Name, same_name}
 use Rattle.group_tree.specs.Variables.{Scalar, Variable, value_of}
 use Rattle.host_vars.proofs.ValueLemmas.{value_of-append, or_none}

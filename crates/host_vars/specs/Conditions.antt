@@ -4,7 +4,7 @@ use Rattle.group_tree.specs.Names.{is_among}
 use Rattle.group_tree.specs.Variables.{Scalar}
 use Rattle.play_model.specs.Results.{Row}
 use Rattle.cond.specs.Meaning.{Environment, Value, Registered, Plain, value_at}
-use Rattle.text_parts.specs.Renders.{Values}
+use Rattle.text_syntax.specs.Renders.{Values}
 use Rattle.host_vars.specs.declared.vars.Vars.{Vars}
 use Rattle.host_vars.specs.HostVars.{Known, known_of, field_known}
 

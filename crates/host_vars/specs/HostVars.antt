@@ -8,8 +8,8 @@ use Rattle.play_model.specs.declared.registers.Registers.{Registers}
 use Rattle.play_model.specs.Results.{Row, has_place, result_of, shared_number}
 use Rattle.host_vars.specs.Layers.{HostView}
 use Rattle.host_vars.specs.Shown.{shown}
-use Rattle.text_parts.specs.declared.field.Field.{Field}
-use Rattle.text_parts.specs.declared.field.Field.TheVariants.{Rc, Stdout, Stderr, Changed, Failed, Skipped}
+use Rattle.text_syntax.specs.declared.field.Field.{Field}
+use Rattle.text_syntax.specs.declared.field.Field.TheVariants.{Rc, Stdout, Stderr, Changed, Failed, Skipped}
 use Rattle.host_vars.specs.declared.vars.Vars.{Vars}
 
 -- the host's name, the groups that hold it, and its variables

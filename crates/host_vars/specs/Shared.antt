@@ -6,7 +6,7 @@ use Rattle.group_tree.specs.Names.{Name}
 use Rattle.group_tree.specs.Variables.{value_of}
 use Rattle.group_tree.specs.Places.{Inventory}
 use Rattle.group_tree.specs.Subtrees.{Host}
-use Rattle.fleet_numbers.specs.NumberLists.{list_at}
+use Rattle.fleet_index.specs.NumberLists.{list_at}
 use Rattle.domains.specs.Numbered.{host_at}
 use Rattle.host_vars.specs.declared.host.HostVariables.{HostVariables}
 use Rattle.host_vars.specs.declared.layer.Layer.{Layer}

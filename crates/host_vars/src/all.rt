@@ -1,7 +1,7 @@
 //! The variables of all hosts of a fleet.
 ghost use Rattle.std.specs.Prelude.{◌≡◌, ℕ, ◌<◌, ◌≤◌, IfOk, All, length, map};
 ghost use Rattle.std.specs.List.{range_with_len};
-ghost use Rattle.fleet_numbers.specs.NumberLists.{list_at};
+ghost use Rattle.fleet_index.specs.NumberLists.{list_at};
 ghost use Rattle.domains.specs.Fleets.{IsFleetOf};
 ghost use Rattle.domains.specs.Numbered.{host_at};
 ghost use Rattle.host_vars.specs.Layers.{IsHostOf};
@@ -18,7 +18,7 @@ use crate::own::table_of_rows;
 use crate::rows::number_rows;
 use crate::sharing::{LastHosts, layers_at};
 use domains::{Fleet, HostRow, list_rows, list_walk};
-use fleet_numbers::{NumberLists, list_members};
+use fleet_index::{NumberLists, list_members};
 use group_tree::{HostId, Tree};
 use std::alloc::{AllocError, Allocator, Global};
 use std::sync::Arc;

@@ -3,7 +3,7 @@ use crate::field::field_value;
 use crate::vars::Vars;
 use cond::{Env, Value};
 use group_tree::Scalar;
-use text_parts::Field;
+use text_syntax::Field;
 
 impl Env for Vars {
     ghost use Rattle.host_vars.specs.Conditions.{environment_of};

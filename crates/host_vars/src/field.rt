@@ -6,7 +6,7 @@ ghost use Rattle.host_vars.specs.HostVars.{field_in_row};
 
 use group_tree::Scalar;
 use play_model::Registered;
-use text_parts::Field;
+use text_syntax::Field;
 
 pub(crate) fn field_value(registered: &Registered, field: Field) -> Option<Scalar<'_>>
     ensures { option_map lent_scalar result ≡ field_in_row (row_of registered.now) field }

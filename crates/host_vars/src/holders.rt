@@ -1,10 +1,10 @@
 //! Which of the groups, in their order, hold each host.
 ghost use Rattle.std.specs.Prelude.{◌≡◌, ◌<◌, IfOk, All, map, length};
-ghost use Rattle.fleet_numbers.specs.NumberLists.{list_at, IsRising};
+ghost use Rattle.fleet_index.specs.NumberLists.{list_at, IsRising};
 ghost use Rattle.domains.specs.Ids.{host_numbers};
 
 use domains::Fleet;
-use fleet_numbers::NumberLists;
+use fleet_index::NumberLists;
 use group_tree::{GroupId, HostId};
 use std::alloc::{AllocError, Global};
 

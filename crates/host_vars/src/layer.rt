@@ -1,6 +1,6 @@
 //! Groups that hold a host, with their variables.
 ghost use Rattle.std.specs.Prelude.{◌≡◌, ◌<◌, All, IfOk, filter, map, length};
-ghost use Rattle.fleet_numbers.specs.NumberLists.{has_number, list_at};
+ghost use Rattle.fleet_index.specs.NumberLists.{has_number, list_at};
 ghost use Rattle.domains.specs.Walked.{walked_groups};
 ghost use Rattle.host_vars.specs.Walked.{walked_at};
 ghost use Rattle.host_vars.specs.Tables.{layer_at, layer_views, layer_view, group_layer};

@@ -21,5 +21,5 @@ mod words;
 
 pub use building::{layered, layered_all};
 pub use play_model::{Registered, Registers};
-pub use text_parts::{BadBraces, MAX_RENDERED, RenderFault, check_word};
+pub use text_syntax::{BadBraces, MAX_RENDERED, RenderFault, check_word};
 pub use vars::Vars;

@@ -1,12 +1,12 @@
 //! The rows of hosts as their groups list them, by the numbers of their hosts.
 ghost use Rattle.std.specs.Prelude.{◌≡◌, ℕ, ◌<◌, IfOk, All, length};
-ghost use Rattle.fleet_numbers.specs.NumberLists.{list_at, has_number, IsRising};
+ghost use Rattle.fleet_index.specs.NumberLists.{list_at, has_number, IsRising};
 ghost use Rattle.group_tree.specs.Names.{same_name};
 ghost use Rattle.domains.specs.Numbered.{host_at};
 ghost use Rattle.host_vars.specs.Own.{hosts_shown, listed_at};
 
 use domains::{Fleet, HostRow};
-use fleet_numbers::NumberLists;
+use fleet_index::NumberLists;
 use std::alloc::{AllocError, Allocator, Global};
 
 /// The number of the host of this name, alone in a list, and none where the fleet has no such host.

@@ -1,13 +1,13 @@
 //! Lists of groups that hosts share.
 ghost use Rattle.std.specs.Prelude.{◌≡◌, ℕ, ◌<◌, ◌≤◌, All, IfOk, IfSome, length, map, slice_index_or};
 ghost use Rattle.std.specs.Arc.{arc_value};
-ghost use Rattle.fleet_numbers.specs.NumberLists.{list_at};
+ghost use Rattle.fleet_index.specs.NumberLists.{list_at};
 ghost use Rattle.host_vars.specs.Tables.{layer_at, layer_views};
 ghost use Rattle.host_vars.specs.Shared.{HaveLayers};
 
 use crate::host::HostVariables;
 use crate::layer::{Layer, share_layers};
-use fleet_numbers::NumberLists;
+use fleet_index::NumberLists;
 use std::alloc::{AllocError, Global};
 use std::sync::Arc;
 

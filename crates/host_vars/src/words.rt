@@ -1,13 +1,13 @@
 //! Words rendered for a host.
 ghost use Rattle.std.specs.Prelude.{IfOk, IfErr, string_bytes};
-ghost use Rattle.text_parts.specs.Faults.{IsRendering, IsFaultOf};
+ghost use Rattle.text_syntax.specs.Faults.{IsRendering, IsFaultOf};
 ghost use Rattle.host_vars.specs.Conditions.{values_of};
 
 use crate::vars::Vars;
 use cond::{Env, Value};
 use group_tree::Scalar;
 use std::alloc::Allocator;
-use text_parts::{Ref, RenderFault, Values, render};
+use text_syntax::{Ref, RenderFault, Values, render};
 
 impl Values for Vars {
     ghost use Rattle.host_vars.specs.Conditions.{values_of};

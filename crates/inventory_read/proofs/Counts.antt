@@ -8,8 +8,8 @@ use Rattle.serde_json.specs.View.{members_view}
 use Rattle.serde_json.specs.declared.value.Value.{Value}
 use Rattle.group_tree.specs.Names.{Name}
 use Rattle.group_tree.specs.Bounds.{group_names, are_within_depth, depth_bound, groups_bound, rows_bound}
-use Rattle.text_parts.specs.Shapes.{entries}
-use Rattle.text_parts.proofs.ListLaws.{entries_counted}
+use Rattle.text_syntax.specs.Shapes.{entries}
+use Rattle.text_syntax.proofs.ListLaws.{entries_counted}
 use Rattle.inventory_read.specs.Documents as documents
 use Rattle.inventory_read.specs.Listings.{Outline, outline_of, outline_at, listing_of, name_of, rows_at, most}
 use Rattle.inventory_read.specs.Values.{host_of, hosts_in, place_of, rows_of}

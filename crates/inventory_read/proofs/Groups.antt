@@ -9,7 +9,7 @@ use Rattle.serde_json.specs.Data.{Data, null, boolean, number, string, array, ob
 use Rattle.serde_json.specs.Find.{get_member}
 use Rattle.serde_json.specs.View.{view}
 use Rattle.group_tree.specs.Names.{Name}
-use Rattle.text_parts.specs.Shapes.{members_in}
+use Rattle.text_syntax.specs.Shapes.{members_in}
 use Rattle.inventory_read.specs.Keys.{all_key, children_key}
 use Rattle.inventory_read.specs.Documents as documents
 use Rattle.inventory_read.specs.Documents.{part, standing, under, with_below, below_body, below_members, groups_in, groups_among, groups_from, merged, own_children, groups_beside_all, groups_of}

@@ -6,9 +6,9 @@ use Rattle.std.proofs.lemmas.Bool.{and_parts}
 use Rattle.std.proofs.lemmas.List.Folds.{list_all-append, list_all-map}
 use Rattle.serde_json.specs.Data.{Data}
 use Rattle.group_tree.specs.Names.{Name, is_name}
-use Rattle.text_parts.specs.Keys.{hosts_key}
-use Rattle.text_parts.specs.Shapes.{Entry, entries_in}
-use Rattle.text_parts.proofs.BreachLaws.{kept, no_first, no_second}
+use Rattle.text_syntax.specs.Keys.{hosts_key}
+use Rattle.text_syntax.specs.Shapes.{Entry, entries_in}
+use Rattle.text_syntax.proofs.BreachLaws.{kept, no_first, no_second}
 use Rattle.inventory_read.specs.Documents.{Listed, standing, under, with_below, groups_of, part}
 use Rattle.inventory_read.specs.Keys.{vars_key, children_key}
 use Rattle.inventory_read.specs.Paths.{text_path_of}

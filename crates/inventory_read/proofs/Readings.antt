@@ -3,16 +3,16 @@ use Rattle.std.proofs.Common.{◌≡◌, ℕ, ◌<◌, ◌==◌, true, false, Op
 use Rattle.std.specs.Bool.{⊤}
 use Rattle.std.proofs.lemmas.Bool.{and_from, and_parts, both_ways, eq-eqb, eqb-true, false_from_ne_true}
 use Rattle.std.proofs.lemmas.List.{length-map}
-use Rattle.text_parts.specs.Breaches.{first_of}
-use Rattle.text_parts.specs.Texts.{BreaksFirst}
+use Rattle.text_syntax.specs.Breaches.{first_of}
+use Rattle.text_syntax.specs.Texts.{BreaksFirst}
 use Rattle.inventory_read.specs.Faults.{breach_of}
 use Rattle.inventory_read.specs.Reads.{AreAllOf, IsFirstOf, IsTrueOf}
 use Rattle.inventory_read.specs.Rules.{Breach, NotJson}
-use Rattle.text_parts.specs.Telling.{Telling, nothing_told, with_breaches}
+use Rattle.text_syntax.specs.Telling.{Telling, nothing_told, with_breaches}
 use Rattle.inventory_read.specs.ToldFaults.{AreTold, AreFaultsOf, is_empty}
 use Rattle.inventory_read.specs.declared.fault.ReadFault.{ReadFault}
 use Rattle.inventory_read.specs.declared.told.Told.{Told}
-use Rattle.text_parts.proofs.Tellings.{more_of, none_of, told_of}
+use Rattle.text_syntax.proofs.Tellings.{more_of, none_of, told_of}
 
 -- these breaches were collected
 pub are_told : (most : ℕ) (breaches : List Breach) (t : Telling Breach) (told : Told) → t ≡ with_breaches (nothing_told most) breaches

@@ -13,9 +13,9 @@ use lib.Pointwise.{bytes_decides}
 use Rattle.std.proofs.Math.Bool.{or_self_left}
 use Rattle.group_tree.specs.Names.{Name, same_name, is_among, are_distinct}
 use Rattle.group_tree.proofs.Repeats.{are_distinct-more}
-use Rattle.text_parts.proofs.BreachLaws.{kept as test_kept, no_first, no_second}
+use Rattle.text_syntax.proofs.BreachLaws.{kept as test_kept, no_first, no_second}
 use Rattle.inventory_read.specs.Rules.{Breach, TwicePlaced, stood_before, repeated_at, repeats}
-use Rattle.text_parts.proofs.Tellings.{flat_map-range_more}
+use Rattle.text_syntax.proofs.Tellings.{flat_map-range_more}
 
 abbrev Text : Type 0
 Text = Bor (List ℕ)

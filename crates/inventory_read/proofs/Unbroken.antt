@@ -5,7 +5,7 @@ use Rattle.serde_json.specs.Data.{Data}
 use Rattle.group_tree.specs.Names.{are_distinct}
 use Rattle.group_tree.specs.Places.{Inventory}
 use Rattle.group_tree.specs.Bounds.{depth_bound, groups_bound, rows_bound, group_names, are_within_depth}
-use Rattle.text_parts.proofs.BreachLaws.{kept, no_first, no_second}
+use Rattle.text_syntax.proofs.BreachLaws.{kept, no_first, no_second}
 use Rattle.inventory_read.specs.Rules.{TooDeep, TooMany, twice_placed, too_deep, too_many, broken_by_tree, broken}
 use Rattle.inventory_read.specs.Values.{inventory_of}
 use Rattle.inventory_read.proofs.Repeats.{unrepeated-distinct}

@@ -3,14 +3,14 @@ use Rattle.std.proofs.Common.{◌≡◌, Bool, true, false, List, [], ◌∷◌,
 use Rattle.std.specs.List.{flat_map}
 use Rattle.serde_json.specs.Data.{Data}
 use Rattle.group_tree.specs.Names.{Name}
-use Rattle.text_parts.specs.Breaches.{unless}
+use Rattle.text_syntax.specs.Breaches.{unless}
 use Rattle.inventory_read.specs.Documents.{Child, Listed, below_body, with_below}
 use Rattle.inventory_read.specs.Listings.{broken_from, broken_under, way_to}
 use Rattle.inventory_read.specs.Paths.{text_path}
 use Rattle.inventory_read.specs.Rules.{Breach, placed, broken_by_group}
-use Rattle.text_parts.specs.Telling.{Telling, with_breaches}
+use Rattle.text_syntax.specs.Telling.{Telling, with_breaches}
 use Rattle.inventory_read.proofs.Checks.{broken_by_children, broken_by_first, broken_by_member}
-use Rattle.text_parts.proofs.Tellings.{after, all_told, pass}
+use Rattle.text_syntax.proofs.Tellings.{after, all_told, pass}
 
 -- a rule of the whole document, by its test
 pub at_top : (kept test : Bool) (breach : Breach) → kept ≡ test → map (placed []) (unless kept breach) ≡ unless test (placed [] breach)

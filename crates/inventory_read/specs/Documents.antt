@@ -6,7 +6,7 @@ use Rattle.std.specs.Cmp.Lexicographic.{slice_cmp}
 use Rattle.serde_json.specs.Data.{Data, null, boolean, number, string, array, object, Members, no_members, member}
 use Rattle.serde_json.specs.Find.{get}
 use Rattle.group_tree.specs.Names.{Name, same_name}
-use Rattle.text_parts.specs.Shapes.{Entry, entries_in}
+use Rattle.text_syntax.specs.Shapes.{Entry, entries_in}
 use Rattle.inventory_read.specs.Keys.{all_key, children_key}
 
 -- the value under a key of an object, null where there is none

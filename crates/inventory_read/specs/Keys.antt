@@ -1,7 +1,7 @@
 -- The keys that the format gives a meaning, beside `hosts`.
 use Rattle.std.specs.Prelude.{List, [], ◌∷◌, codes}
 use Rattle.group_tree.specs.Names.{Name}
-use Rattle.text_parts.specs.Keys.{hosts_key}
+use Rattle.text_syntax.specs.Keys.{hosts_key}
 
 abbrev pub all_key : Name
 all_key = codes "all"

@@ -10,7 +10,7 @@ use Rattle.inventory_read.specs.Documents as documents
 use Rattle.inventory_read.specs.Keys.{all_key}
 use Rattle.inventory_read.specs.Paths.{text_path, names_to}
 use Rattle.inventory_read.specs.Rules.{Breach, placed, broken_by_group}
-use Rattle.text_parts.specs.Telling.{Telling, with_breaches}
+use Rattle.text_syntax.specs.Telling.{Telling, with_breaches}
 use Rattle.inventory_read.specs.Values.{hosts_in}
 use Rattle.inventory_read.specs.declared.children.Child.{Child}
 use Rattle.inventory_read.specs.declared.checking.Listed.{Listed}

@@ -3,8 +3,8 @@ use Rattle.std.specs.Prelude.{Bool, ◌&&◌, List}
 use Rattle.std.specs.List.{list_all}
 use Rattle.serde_json.specs.Data.{Data}
 use Rattle.group_tree.specs.Names.{is_name}
-use Rattle.text_parts.specs.Keys.{hosts_key}
-use Rattle.text_parts.specs.Shapes.{Entry, entries_in}
+use Rattle.text_syntax.specs.Keys.{hosts_key}
+use Rattle.text_syntax.specs.Shapes.{Entry, entries_in}
 use Rattle.inventory_read.specs.Documents.{Listed, part}
 
 abbrev pub has_name : Entry → Bool

@@ -3,7 +3,7 @@ use Rattle.std.specs.Prelude.{ℕ, ◌++◌, if◌then◌else◌, List, [], ◌�
 use Rattle.std.specs.List.{flat_map, join_by}
 use Rattle.group_tree.specs.Names.{Name}
 use Rattle.inventory_read.specs.Documents.{Listed}
-use Rattle.text_parts.specs.Keys.{hosts_key}
+use Rattle.text_syntax.specs.Keys.{hosts_key}
 use Rattle.inventory_read.specs.Keys.{down_key, max_down_key, vars_key}
 
 -- the path of a group's body, by the names from an entry of the top value down to the group: each next one is a key of `children`

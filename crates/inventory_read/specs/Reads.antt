@@ -3,8 +3,8 @@ use Rattle.std.specs.Prelude.{◌≡◌, ℕ, ◌⊎◌, Some, List, [], ◌∷�
 use Rattle.serde_json.specs.Data.{Data}
 use Rattle.serde_json.specs.Read.{read}
 use Rattle.group_tree.specs.Places.{Inventory}
-use Rattle.text_parts.specs.Breaches.{first_of}
-use Rattle.text_parts.specs.Texts.{BreaksFirst, IsNoJson}
+use Rattle.text_syntax.specs.Breaches.{first_of}
+use Rattle.text_syntax.specs.Texts.{BreaksFirst, IsNoJson}
 use Rattle.inventory_read.specs.Faults.{breach_of}
 use Rattle.inventory_read.specs.Rules.{Breach, NotJson, broken}
 use Rattle.inventory_read.specs.Values.{inventory_of}

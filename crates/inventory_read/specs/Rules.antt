@@ -6,9 +6,9 @@ use Rattle.serde_json.specs.Find.{get}
 use Rattle.group_tree.specs.Names.{Name, is_name, is_among}
 use Rattle.group_tree.specs.Places.{Inventory}
 use Rattle.group_tree.specs.Bounds.{depth_bound, groups_bound, rows_bound, group_names, are_within_depth}
-use Rattle.text_parts.specs.Breaches.{unless, joined}
-use Rattle.text_parts.specs.Keys.{hosts_key}
-use Rattle.text_parts.specs.Shapes.{Entry, entries_in, is_object, is_null, is_truth}
+use Rattle.text_syntax.specs.Breaches.{unless, joined}
+use Rattle.text_syntax.specs.Keys.{hosts_key}
+use Rattle.text_syntax.specs.Shapes.{Entry, entries_in, is_object, is_null, is_truth}
 use Rattle.inventory_read.specs.Keys.{children_key, vars_key, max_down_key, down_key, body_keys}
 use Rattle.inventory_read.specs.Documents.{Listed, part, groups_of}
 use Rattle.inventory_read.specs.Paths.{down_path, host_path, limit_path, part_path, text_path_of}

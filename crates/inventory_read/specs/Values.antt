@@ -7,9 +7,9 @@ use Rattle.group_tree.specs.DownLimits.{Limit, Count, Percent}
 use Rattle.group_tree.specs.Variables.{Scalar, Text, Int, Truth, Variable}
 use Rattle.group_tree.specs.Places.{Place, Row, Inventory}
 use Rattle.group_tree.specs.Subtrees.{Host}
-use Rattle.text_parts.specs.Keys.{hosts_key}
-use Rattle.text_parts.specs.Numerals.{whole_number, percentage_in}
-use Rattle.text_parts.specs.Shapes.{Entry, entries_in}
+use Rattle.text_syntax.specs.Keys.{hosts_key}
+use Rattle.text_syntax.specs.Numerals.{whole_number, percentage_in}
+use Rattle.text_syntax.specs.Shapes.{Entry, entries_in}
 use Rattle.inventory_read.specs.Keys.{vars_key, max_down_key}
 use Rattle.inventory_read.specs.Documents.{Listed, part, groups_of}
 

@@ -2,7 +2,7 @@
 use Rattle.std.specs.Prelude.{ℕ, List, [], ◌∷◌, codes}
 use Rattle.serde_json.specs.Data.{unsigned, Data, null, number, object, Members, no_members, member}
 use Rattle.group_tree.specs.Names.{Name}
-use Rattle.text_parts.specs.Keys.{hosts_key}
+use Rattle.text_syntax.specs.Keys.{hosts_key}
 use Rattle.inventory_read.specs.Keys.{all_key, children_key, vars_key, max_down_key, down_key}
 
 abbrev one : Name → Data → Data

@@ -6,7 +6,7 @@ ghost use Rattle.group_tree.specs.Bounds.{depth_bound, groups_bound, rows_bound}
 ghost use Rattle.inventory_read.specs.Documents as documents;
 ghost use Rattle.inventory_read.specs.Listings.{outline_of, listing_of, name_of, rows_at, most};
 ghost use Rattle.inventory_read.specs.Rules.{broken_by_tree, repeats};
-ghost use Rattle.text_parts.specs.Telling.{with_breaches};
+ghost use Rattle.text_syntax.specs.Telling.{with_breaches};
 ghost use Rattle.inventory_read.specs.Values as values;
 
 use crate::checking::Listed;

@@ -6,7 +6,7 @@ ghost use Rattle.group_tree.specs.Names.{is_name};
 ghost use Rattle.group_tree.specs.Subtrees as subtrees;
 ghost use Rattle.group_tree.specs.Limits as tree;
 ghost use Rattle.group_tree.specs.Scalars.{lent_variable};
-ghost use Rattle.text_parts.specs.Shapes.{entries_in};
+ghost use Rattle.text_syntax.specs.Shapes.{entries_in};
 ghost use Rattle.inventory_read.specs.Documents as documents;
 ghost use Rattle.inventory_read.specs.Keys.{all_key};
 ghost use Rattle.inventory_read.specs.Listings.{child_of};
@@ -21,7 +21,7 @@ use crate::variables::variables_of;
 use group_tree::{Group, Limit, Scalar};
 use serde_json::{Map, Value};
 use std::alloc::{AllocError, Allocator, Global};
-use text_parts::entries_of;
+use text_syntax::entries_of;
 
 fn limit_in(body: &Value) -> Option<Limit>
     ensures { option_map tree.limit_of result ≡ values.limit_in (view body.now) }

@@ -6,7 +6,7 @@ ghost use Rattle.inventory_read.specs.Documents as documents;
 ghost use Rattle.inventory_read.specs.Keys.{all_key};
 ghost use Rattle.inventory_read.specs.Listings.{broken_from, child_of, listing_of, outline_at, outline_of, texts, way_to};
 ghost use Rattle.inventory_read.specs.Rules.{broken_in};
-ghost use Rattle.text_parts.specs.Telling.{with_breaches};
+ghost use Rattle.text_syntax.specs.Telling.{with_breaches};
 
 use crate::children::Child;
 use crate::collector::FaultCollector;

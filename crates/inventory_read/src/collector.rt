@@ -1,10 +1,10 @@
 //! The faults that are found, and how many more there are.
 ghost use Rattle.std.specs.Prelude.{◌≡◌, ◌+◌, ◌++◌, ◌∷◌, [], OnOk, length, map, nat_lt};
-ghost use Rattle.text_parts.specs.Breaches.{unless};
+ghost use Rattle.text_syntax.specs.Breaches.{unless};
 ghost use Rattle.inventory_read.specs.Faults.{breach_of, breach_of_flaw};
 ghost use Rattle.inventory_read.specs.Listings.{texts, with_placed};
 ghost use Rattle.inventory_read.specs.Paths.{text_path};
-ghost use Rattle.text_parts.specs.Telling.{nothing_told, with_breaches};
+ghost use Rattle.text_syntax.specs.Telling.{nothing_told, with_breaches};
 
 use crate::fault::ReadFault;
 use crate::flaw::Flaw;
@@ -26,7 +26,7 @@ impl Model for FaultCollector {
     ghost use Rattle.std.specs.Prelude.{map};
     ghost use Rattle.inventory_read.specs.Faults.{breach_of};
     ghost use Rattle.inventory_read.specs.Rules.{Breach};
-    ghost use Rattle.text_parts.specs.Telling.{Telling};
+    ghost use Rattle.text_syntax.specs.Telling.{Telling};
 
     ghost Value = { Telling Breach };
 

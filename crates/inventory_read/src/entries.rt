@@ -2,11 +2,11 @@
 ghost use Rattle.std.specs.Prelude.{◌≡◌, ◌+◌, ◌≤◌, IfSome, MatchOption};
 ghost use Rattle.serde_json.specs.Data.{depth, members_depth, no_members};
 ghost use Rattle.serde_json.specs.View.{view, members_view};
-ghost use Rattle.text_parts.specs.Shapes.{members_in};
+ghost use Rattle.text_syntax.specs.Shapes.{members_in};
 ghost use Rattle.inventory_read.specs.Documents.{part};
 
 use serde_json::{Map, Value};
-use text_parts::entries_of;
+use text_syntax::entries_of;
 
 /// The entries of the object that stands under a key.
 pub(crate) fn entries_at<'a>(value: &'a Value, key: &str) -> Option<&'a Map<String, Value>>

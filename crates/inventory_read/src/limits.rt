@@ -6,7 +6,7 @@ ghost use Rattle.inventory_read.specs.Values as values;
 
 use group_tree::{Limit, Percentage};
 use serde_json::Value;
-use text_parts::{percentage_in, whole_number};
+use text_syntax::{percentage_in, whole_number};
 
 /// What `max_down` says: a whole number from 0 to 65,535, or a percentage.
 pub(crate) fn limit_of(value: &Value) -> Option<Limit>

@@ -4,13 +4,13 @@ ghost use Rattle.std.specs.List.{flat_map};
 ghost use Rattle.serde_json.specs.Data.{null};
 ghost use Rattle.serde_json.specs.Read.{read};
 ghost use Rattle.serde_json.specs.View.{view};
-ghost use Rattle.text_parts.specs.Texts.{IsNoJson};
+ghost use Rattle.text_syntax.specs.Texts.{IsNoJson};
 ghost use Rattle.inventory_read.specs.Documents as documents;
 ghost use Rattle.inventory_read.specs.Keys.{all_key};
 ghost use Rattle.inventory_read.specs.Listings.{child_of};
 ghost use Rattle.inventory_read.specs.Reads.{IsReadAs, IsTrueOf};
 ghost use Rattle.inventory_read.specs.Rules as rules;
-ghost use Rattle.text_parts.specs.Telling.{with_breaches};
+ghost use Rattle.text_syntax.specs.Telling.{with_breaches};
 ghost use Rattle.inventory_read.specs.ToldFaults.{AreTold, AreFaultsOf, is_empty};
 ghost use Rattle.inventory_read.specs.Values as values;
 

@@ -1,8 +1,8 @@
 //! The rules that each group of a document keeps by itself. The names lead to the group.
 ghost use Rattle.std.specs.Prelude.{◌≡◌, OnOk};
 ghost use Rattle.serde_json.specs.View.{view};
-ghost use Rattle.text_parts.specs.Keys.{hosts_key};
-ghost use Rattle.text_parts.specs.Shapes.{entries_in};
+ghost use Rattle.text_syntax.specs.Keys.{hosts_key};
+ghost use Rattle.text_syntax.specs.Shapes.{entries_in};
 ghost use Rattle.inventory_read.specs.Documents.{part};
 ghost use Rattle.inventory_read.specs.Listings.{with_placed};
 ghost use Rattle.inventory_read.specs.Rules as rules;
@@ -17,7 +17,7 @@ use crate::shapes::{
 use group_tree::is_name;
 use serde_json::{Map, Value};
 use std::alloc::AllocError;
-use text_parts::entries_of;
+use text_syntax::entries_of;
 
 fn check_keys(faults: &mut FaultCollector, names: &[&str], body: &Value) -> Result<(), AllocError>
     ensures { OnOk result (faults.new ≡ with_placed faults.old names.now (rules.broken_by_keys (entries_in (view body.now)))) }

@@ -3,7 +3,7 @@ ghost use Rattle.std.specs.Prelude.{◌≡◌, option_map};
 ghost use Rattle.serde_json.specs.Find.{get};
 ghost use Rattle.serde_json.specs.View.{view};
 ghost use Rattle.group_tree.specs.Names.{is_among};
-ghost use Rattle.text_parts.specs.Shapes.{is_truth};
+ghost use Rattle.text_syntax.specs.Shapes.{is_truth};
 ghost use Rattle.inventory_read.specs.Documents.{part};
 ghost use Rattle.inventory_read.specs.Keys.{body_keys, down_key, max_down_key, vars_key};
 ghost use Rattle.inventory_read.specs.Rules as rules;

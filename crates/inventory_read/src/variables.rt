@@ -2,7 +2,7 @@
 ghost use Rattle.std.specs.Prelude.{◌≡◌, IfOk, map, option_map};
 ghost use Rattle.serde_json.specs.View.{view, members_view};
 ghost use Rattle.group_tree.specs.Scalars.{lent_scalar, lent_variable};
-ghost use Rattle.text_parts.specs.Shapes.{entries};
+ghost use Rattle.text_syntax.specs.Shapes.{entries};
 ghost use Rattle.inventory_read.specs.Values as values;
 
 use group_tree::Scalar;

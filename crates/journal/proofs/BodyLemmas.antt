@@ -5,7 +5,7 @@ use Rattle.std.specs.List.{list_all}
 use Rattle.std.proofs.lemmas.Bool.{and_parts, leb-true, ltb-true}
 use Rattle.domains.specs.FleetViews.{FleetView, IsSound}
 use Rattle.domains.specs.Numbered.{host_at}
-use Rattle.play_course.specs.declared.end.End.TheVariants as ending
+use Rattle.play_forecast.specs.declared.end.End.TheVariants as ending
 use Rattle.recap.specs.PlanText.{names_line}
 use Rattle.journal.specs.Names.{HasPlainNames}
 use Rattle.journal.specs.Entries.{Entry, Head, again, begun, closed, ended, entry_body, held, is_digest, is_digit, opened, play, resumed, without_feed}

@@ -16,14 +16,14 @@ use Rattle.std.proofs.lemmas.List.Sums.{position_or_len_is}
 use Rattle.std.proofs.lemmas.Str.{is_utf8-from_IsUtf8}
 use Rattle.std.proofs.lemmas.Str.Parse.{digit_from_value}
 use Rattle.group_tree.specs.Names.{same_name}
-use Rattle.fleet_numbers.proofs.SortedNamesLemmas.{same_name-itself, same_name-true}
+use Rattle.fleet_index.proofs.SortedNamesLemmas.{same_name-itself, same_name-true}
 use Rattle.domains.specs.FleetViews.{FleetView, IsSound}
 use Rattle.domains.specs.Numbered.{host_at}
 use Rattle.domains.proofs.BeginLemmas.{distinct_at}
 use Rattle.domains.proofs.NumberLemmas.{same_host}
 use Rattle.fleet_states.specs.declared.status.Status.{Status}
 use Rattle.fleet_states.specs.declared.status.Status.TheVariants as status
-use Rattle.play_course.specs.declared.end.End.TheVariants as ending
+use Rattle.play_forecast.specs.declared.end.End.TheVariants as ending
 use Rattle.recap.specs.PlanText.{names_line, names_text}
 use Rattle.recap.specs.RecapText.{blocked_end, state_word, too_many_end}
 use Rattle.journal.specs.Entries.{Entry, Head, Outcome, again, begun, closed, closed_line, ended, entry_body, head_line, held, is_digest, is_digit, opened, outcome_text, play, resumed, without_feed}

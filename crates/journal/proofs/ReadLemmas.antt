@@ -26,10 +26,10 @@ module _ (fleet : FleetView) (sound : IsSound fleet) (body : List ℕ) where
   pub no_body : entry_in fleet body ≡ None → IsNoBody fleet body
   no_body none plain entry fits is = let found = said_is_found fleet sound plain entry fits in let same = ap (entry_in fleet) is in cc
 
-  pub other_body : (guess : Entry) → entry_in fleet body ≡ Some guess → (entry_body fleet guess ≡ body → ⊥) → IsNoBody fleet body
-  other_body guess is otherwise plain entry fits says =
+  pub other_body : (parse_candidate : Entry) → entry_in fleet body ≡ Some parse_candidate → (entry_body fleet parse_candidate ≡ body → ⊥) → IsNoBody fleet body
+  other_body parse_candidate is otherwise plain entry fits says =
       let found = said_is_found fleet sound plain entry fits in
-      let same : entry ≡ guess = let e = ap (entry_in fleet) says in cc in
+      let same : entry ≡ parse_candidate = let e = ap (entry_in fleet) says in cc in
       otherwise (ap (entry_body fleet) (sym same) ∙ sym says)
 
 module _ (fleet : FleetView) (sound : IsSound fleet) (state : JournalState) (kept : IsKept fleet state) (line : List ℕ) (bytes : AreBytes line) (short : length line ≤ 16777216) where

@@ -4,7 +4,7 @@ use Rattle.std.specs.List.{list_all}
 use Rattle.domains.specs.FleetViews.{FleetView}
 use Rattle.domains.specs.Numbered.{host_at}
 use Rattle.fleet_states.specs.declared.status.Status.{Status}
-use Rattle.play_course.specs.declared.end.End.{End}
+use Rattle.play_forecast.specs.declared.end.End.{End}
 use Rattle.recap.specs.LimitsText.{field_text}
 use Rattle.recap.specs.PlanText.{names_line}
 use Rattle.recap.specs.RecapText.{ended_line, state_word}

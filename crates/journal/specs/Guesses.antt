@@ -3,14 +3,14 @@ use Rattle.std.specs.Prelude.{ℕ, Bool, ◌||◌, ◌&&◌, Option, None, Some,
 use Rattle.std.specs.List.{before_first, position_or_len}
 use Rattle.std.specs.Option.{option_or}
 use Rattle.std.specs.Str.{bytes_eq, is_utf8}
-use Rattle.text_parts.specs.Numerals.{number_in_digits}
+use Rattle.text_syntax.specs.Numerals.{number_in_digits}
 use Rattle.group_tree.specs.Names.{is_among, same_name}
 use Rattle.group_tree.specs.declared.ids.GroupId.{GroupId}
 use Rattle.domains.specs.FleetViews.{FleetView}
 use Rattle.fleet_states.specs.declared.status.Status.{Status}
 use Rattle.fleet_states.specs.declared.status.Status.TheVariants as status
-use Rattle.play_course.specs.declared.end.End.{End}
-use Rattle.play_course.specs.declared.end.End.TheVariants as ending
+use Rattle.play_forecast.specs.declared.end.End.{End}
+use Rattle.play_forecast.specs.declared.end.End.TheVariants as ending
 use Rattle.recap.specs.RecapText.{state_word}
 use Rattle.journal.specs.Entries.{Entry, Head, Outcome, again, begun, closed, ended, held, opened, play, resumed}
 use Rattle.journal.specs.States.{most_number}

@@ -1,6 +1,6 @@
 -- What is written of statuses.
 use Rattle.std.specs.Prelude.{ℕ, List, length, map}
-use Rattle.fleet_numbers.specs.NumberLists.{numbers_where}
+use Rattle.fleet_index.specs.NumberLists.{numbers_where}
 use Rattle.fleet_states.specs.declared.status.Status.{Status}
 use Rattle.fleet_states.specs.Statuses.{is_waiting, status_at}
 use Rattle.journal.specs.Entries.{Outcome}

@@ -5,7 +5,7 @@ use Rattle.domains.specs.FleetViews.{FleetView}
 use Rattle.domains.specs.Numbered.{host_at}
 use Rattle.fleet_states.specs.declared.status.Status.{Status}
 use Rattle.fleet_states.specs.Statuses.{status_at}
-use Rattle.play_course.specs.declared.end.End.{End}
+use Rattle.play_forecast.specs.declared.end.End.{End}
 use Rattle.recap.specs.RecapText.{ended_line, state_word}
 use Rattle.journal.specs.States.{JournalState, is_idle, is_one_more}
 

@@ -1,15 +1,15 @@
 -- Where a run stands behind entries of its journal.
 use Rattle.std.specs.Prelude.{ℕ, suc, Bool, true, false, ◌&&◌, ◌||◌, ◌==◌, nat_le, nat_lt, not}
 use Rattle.std.specs.Prelude.{Option, None, Some, is_none, is_some, option_map, option_and_then, List, [], ◌∷◌, ◌++◌, filter, length, map, slice_set, if◌then◌else◌}
-use Rattle.fleet_numbers.specs.NumberLists.{are_below}
+use Rattle.fleet_index.specs.NumberLists.{are_below}
 use Rattle.domains.specs.FleetViews.{FleetView}
 use Rattle.fleet_states.specs.declared.status.Status.{Status}
 use Rattle.fleet_states.specs.declared.status.Status.TheVariants.{Idle, Waiting, Running, Updated, Failed, Halted, Off, Held}
 use Rattle.fleet_states.specs.Starts.{start_statuses}
 use Rattle.fleet_states.specs.Statuses.{changed, is_down, is_running, is_waiting, status_at}
 use Rattle.batch_plan.specs.Beginnings.{restart_statuses}
-use Rattle.play_course.specs.declared.end.End.{End}
-use Rattle.play_course.specs.declared.end.End.TheVariants as ending
+use Rattle.play_forecast.specs.declared.end.End.{End}
+use Rattle.play_forecast.specs.declared.end.End.TheVariants as ending
 use Rattle.journal.specs.Entries.{Entry, Head, Outcome, again, begun, closed, ended, held, is_digest, opened, play, resumed}
 
 -- which run it is; which of its plays has begun last, from 1, and none with 0; the statuses of the hosts; the batch that is open, and nobody where none is;

@@ -1,7 +1,7 @@
 //! What a journal says, entry by entry.
 use fleet_states::Status;
 use group_tree::HostId;
-use play_course::End;
+use play_forecast::End;
 
 /// Which run a journal is of.
 #[derive(Clone, Copy)]

@@ -3,12 +3,12 @@ ghost use Rattle.std.specs.Prelude.{◌≡◌, option_map};
 ghost use Rattle.journal.specs.Guesses as spec;
 ghost use Rattle.journal.specs.Guesses.{group_in, host_in};
 
-use crate::following::MOST_NUMBER;
 use crate::lines::{cut_word, strip};
+use crate::replay::MOST_NUMBER;
 use domains::Fleet;
 use group_tree::{GroupId, HostId};
 use std::str;
-use text_parts::number_in_digits;
+use text_syntax::number_in_digits;
 
 /// What the first word says, where it begins so.
 pub(crate) fn field<'l>(front: &[u8], bytes: &'l [u8]) -> Option<&'l [u8]>

@@ -3,18 +3,18 @@
 
 mod checked_line;
 mod digest;
+mod encode;
 mod entry;
 mod fault;
 mod fields;
-mod following;
-mod guessing;
 mod laws;
 mod lines;
 mod moving;
+mod parse;
 mod reading;
+mod replay;
+mod report;
 mod resuming;
-mod saying;
-mod standing;
 mod state;
 mod writing;
 
@@ -24,7 +24,7 @@ pub use fault::JournalFault;
 pub use laws::{fronts_are_read, no_change_passes};
 pub use lines::{first_line, whole_length};
 pub use reading::read_journal;
-pub use standing::write_state;
+pub use report::write_state;
 pub use state::Journal;
 pub use writing::{
     write_again, write_closed, write_end, write_head, write_held, write_open, write_play,

@@ -7,12 +7,12 @@ ghost use Rattle.journal.specs.Names.{HasPlainNames};
 ghost use Rattle.journal.specs.Shown.{shown_entry, shown_journal};
 
 use crate::checked_line::{MAX_BODY, body_of};
+use crate::encode::body_of_entry;
 use crate::entry::Entry;
 use crate::fault::JournalFault;
-use crate::following::follow;
-use crate::guessing::guess;
 use crate::lines::cut_line;
-use crate::saying::body_of_entry;
+use crate::parse::parse_candidate;
+use crate::replay::follow;
 use crate::state::Journal;
 use domains::Fleet;
 use std::alloc::{AllocError, Global};
@@ -26,7 +26,7 @@ fn read_entry<'t>(
     requires { IsSound fleet.now }
     ensures { IfOk result (λ found. MatchOption found (IsNoBody fleet.now body.now) (λ entry. IsEntryOf fleet.now body.now (shown_entry entry))) }
 {
-    let Some(entry) = guess(alloc, fleet, body)? else {
+    let Some(entry) = parse_candidate(alloc, fleet, body)? else {
         return Ok(None);
     };
     let said = body_of_entry(alloc, fleet, &entry)?;

@@ -10,7 +10,7 @@ use crate::moving::set_status;
 use crate::state::Journal;
 use fleet_states::{Status, status_of};
 use group_tree::HostId;
-use play_course::End;
+use play_forecast::End;
 use std::alloc::{AllocError, Global};
 
 /// A host that is up, where it was down.

@@ -9,7 +9,7 @@ use batch_plan::start;
 use domains::Fleet;
 use fleet_states::Status;
 use group_tree::HostId;
-use play_course::End;
+use play_forecast::End;
 use std::alloc::{AllocError, Global};
 
 /// Where a run stands behind the entries of its journal.

@@ -9,13 +9,13 @@ ghost use Rattle.journal.specs.Listings.{outcomes_of, waiting_hosts};
 ghost use Rattle.journal.specs.Shown.{lent_outcome, shown_entry, shown_head};
 
 use crate::checked_line::{MAX_BODY, write_line};
+use crate::encode::body_of_entry;
 use crate::entry::{Entry, Head, Outcome};
-use crate::saying::body_of_entry;
 use bounded_io::TextWriter;
 use domains::Fleet;
 use fleet_states::{Status, status_of};
 use group_tree::HostId;
-use play_course::End;
+use play_forecast::End;
 use std::alloc::{AllocError, Global};
 use std::io::Write;
 

@@ -3,24 +3,24 @@ use Rattle.std.proofs.Common.{◌≡◌, ◌∙◌, ℕ, None, List, Option, ap,
 use Rattle.std.specs.List.{find}
 use Rattle.std.specs.Io.KnownBytes.{Appends, Keeps}
 use Rattle.bounded_io.specs.Sending.{SendsFirst}
-use Rattle.text_parts.specs.Patterns.{parts_of}
+use Rattle.text_syntax.specs.Patterns.{parts_of}
 use Rattle.domains.specs.FleetViews.{FleetView}
 use Rattle.domains.specs.Ids.{host_numbers}
 use Rattle.group_tree.specs.declared.ids.HostId.{HostId}
 use Rattle.domains.specs.Patterns.{names_nothing}
 use Rattle.batch_plan.specs.declared.answers.Answer.{Answer}
-use Rattle.json_texts.specs.PlanJson.{plan_json}
+use Rattle.json_output.specs.PlanJson.{plan_json}
 use Rattle.play_model.specs.declared.play.Play.{Play}
-use Rattle.planning.specs.Ends.{end_of}
-use Rattle.planning.specs.PlanTexts.{ArePlaysIn, IsFleetIn, IsPlaybookFault, IsPlaybookPlan, IsUnread}
-use Rattle.planning.specs.declared.end.End.{End}
-use Rattle.planning.specs.declared.fault.PlanFault.{PlanFault}
-use Rattle.planning.specs.declared.fault.PlanFault.TheVariants.{Read, Fleet, Playbook, Pattern, Write}
-use Rattle.rehearsing.specs.CourseSteps.{course_of}
-use Rattle.rehearsing.specs.CourseTexts.{AreCoursesBy, IsEndOf, failing_by}
-use Rattle.rehearsing.specs.declared.course.PlayCourse.{PlayCourse}
-use Rattle.rehearsing.specs.declared.course_end.CourseEnd.{CourseEnd}
-use Rattle.rehearsing.proofs.CourseTextLemmas.{ends_somehow, some_course}
+use Rattle.plan_command.specs.Ends.{end_of}
+use Rattle.plan_command.specs.PlanTexts.{ArePlaysIn, IsFleetIn, IsPlaybookFault, IsPlaybookPlan, IsUnread}
+use Rattle.plan_command.specs.declared.end.End.{End}
+use Rattle.plan_command.specs.declared.fault.PlanFault.{PlanFault}
+use Rattle.plan_command.specs.declared.fault.PlanFault.TheVariants.{Read, Fleet, Playbook, Pattern, Write}
+use Rattle.rehearse.specs.CourseSteps.{course_of}
+use Rattle.rehearse.specs.CourseTexts.{AreCoursesBy, IsEndOf, failing_by}
+use Rattle.rehearse.specs.declared.course.PlayCourse.{PlayCourse}
+use Rattle.rehearse.specs.declared.course_end.CourseEnd.{CourseEnd}
+use Rattle.rehearse.proofs.CourseTextLemmas.{ends_somehow, some_course}
 use Rattle.json_commands.specs.LimitsTexts.{IsTrueLimitsFault}
 use Rattle.json_commands.specs.PlanTexts.{BreaksPlanJson, IsTruePlanFault, WritesPlanJson}
 use Rattle.json_commands.specs.CourseTexts.{BreaksCourseJson, IsTrueCourseJsonFault, WritesCourseJson, courses_json}

@@ -4,10 +4,10 @@ use Rattle.domains.specs.FleetViews.{FleetView}
 use Rattle.domains.specs.Patterns.{IsPatternFault}
 use Rattle.domains.specs.declared.pattern_fault.PatternFault.{PatternFault}
 use Rattle.batch_plan.specs.declared.answers.Answer.{Answer}
-use Rattle.play_course.specs.PlayPlans.{IsPlanOf, parts_of_play}
-use Rattle.play_course.proofs.PatternLemmas.{fault_here}
+use Rattle.play_forecast.specs.PlayPlans.{IsPlanOf, parts_of_play}
+use Rattle.play_forecast.proofs.PatternLemmas.{fault_here}
 use Rattle.play_model.specs.declared.play.Play.{Play}
-use Rattle.planning.specs.PlanTexts.{ArePlaysIn, IsFirstPlan, IsNoTarget, IsPlaybookPlan}
+use Rattle.plan_command.specs.PlanTexts.{ArePlaysIn, IsFirstPlan, IsNoTarget, IsPlaybookPlan}
 
 pub first_plan : (fleet : FleetView) (playbook : List ℕ) (plays : List Play) (play : Play) (answer : Answer) (held : List ℕ) → ArePlaysIn fleet playbook plays → 0 < length plays → play ≡ get_or plays 0 play
     → IsPlanOf fleet play answer held → IsPlaybookPlan fleet playbook answer held

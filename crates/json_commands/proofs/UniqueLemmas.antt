@@ -4,23 +4,23 @@ use Rattle.std.specs.List.{sum_by}
 use Rattle.domains.specs.FleetViews.{FleetView}
 use Rattle.batch_plan.specs.declared.answers.Answer.{Answer}
 use Rattle.batch_plan.specs.Answers.{IsSameAnswer}
-use Rattle.play_course.specs.Courses.{batches_of}
-use Rattle.play_course.specs.Files.{Course}
-use Rattle.play_course.specs.Laws.{AreSameBoundaries, AreSameCourses}
-use Rattle.play_course.specs.declared.end.End.{End}
-use Rattle.play_course.proofs.AlikeLemmas.{one_plan}
+use Rattle.play_forecast.specs.Courses.{batches_of}
+use Rattle.play_forecast.specs.Files.{Course}
+use Rattle.play_forecast.specs.Laws.{AreSameBoundaries, AreSameCourses}
+use Rattle.play_forecast.specs.declared.end.End.{End}
+use Rattle.play_forecast.proofs.AlikeLemmas.{one_plan}
 use Rattle.recap.specs.LimitsText.{field_text}
 use Rattle.recap.specs.RecapText.{text_by_place}
-use Rattle.planning.specs.Ends.{end_of}
-use Rattle.planning.specs.PlanTexts.{IsPlaybookPlan}
-use Rattle.planning.proofs.UniqueLemmas.{first_alike, one_fleet_in, same_end}
-use Rattle.rehearsing.specs.CourseTexts.{batches_opened}
-use Rattle.rehearsing.proofs.OneCourseLemmas.{same_ends, same_readings}
-use Rattle.rehearsing.proofs.SameTextLemmas.{same_many, same_sum}
-use Rattle.json_texts.specs.Arrays.{comma_if}
-use Rattle.json_texts.specs.PlanJson.{answer_json, batches_json, names_json, plan_json}
-use Rattle.json_texts.specs.PlayJson.{boundaries_json, course_json, ended_json}
-use Rattle.json_texts.proofs.SameLemmas.{same_answer, same_batches, same_boundaries}
+use Rattle.plan_command.specs.Ends.{end_of}
+use Rattle.plan_command.specs.PlanTexts.{IsPlaybookPlan}
+use Rattle.plan_command.proofs.UniqueLemmas.{first_alike, one_fleet_in, same_end}
+use Rattle.rehearse.specs.CourseTexts.{batches_opened}
+use Rattle.rehearse.proofs.OneCourseLemmas.{same_ends, same_readings}
+use Rattle.rehearse.proofs.SameTextLemmas.{same_many, same_sum}
+use Rattle.json_output.specs.Arrays.{comma_if}
+use Rattle.json_output.specs.PlanJson.{answer_json, batches_json, names_json, plan_json}
+use Rattle.json_output.specs.PlayJson.{boundaries_json, course_json, ended_json}
+use Rattle.json_output.proofs.SameLemmas.{same_answer, same_batches, same_boundaries}
 use Rattle.json_commands.specs.CourseTexts.{courses_json}
 use Rattle.json_commands.specs.Laws.{OneCourseJson, OnePlanJson}
 

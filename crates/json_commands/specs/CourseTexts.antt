@@ -3,16 +3,16 @@ use Rattle.std.specs.Prelude.{◌≡◌, ℕ, None, List, Option}
 use Rattle.std.specs.List.{find, sum_by}
 use Rattle.std.specs.Io.KnownBytes.{Appends}
 use Rattle.bounded_io.specs.Sending.{SendsFirst}
-use Rattle.text_parts.specs.Patterns.{parts_of}
+use Rattle.text_syntax.specs.Patterns.{parts_of}
 use Rattle.domains.specs.FleetViews.{FleetView}
 use Rattle.domains.specs.Patterns.{names_nothing}
-use Rattle.json_texts.specs.PlayJson as json
-use Rattle.play_course.specs.Files.{Course}
+use Rattle.json_output.specs.PlayJson as json
+use Rattle.play_forecast.specs.Files.{Course}
 use Rattle.play_model.specs.declared.play.Play.{Play}
-use Rattle.planning.specs.declared.fault.PlanFault.{PlanFault}
-use Rattle.planning.specs.declared.fault.PlanFault.TheVariants.{Read, Fleet, Playbook, Pattern, Write}
-use Rattle.rehearsing.specs.CourseTexts.{AreCoursesBy, AreRead, IsEndOf, IsTrueCourseFault, batches_opened, failing_by}
-use Rattle.rehearsing.specs.declared.course_end.CourseEnd.{CourseEnd}
+use Rattle.plan_command.specs.declared.fault.PlanFault.{PlanFault}
+use Rattle.plan_command.specs.declared.fault.PlanFault.TheVariants.{Read, Fleet, Playbook, Pattern, Write}
+use Rattle.rehearse.specs.CourseTexts.{AreCoursesBy, AreRead, IsEndOf, IsTrueCourseFault, batches_opened, failing_by}
+use Rattle.rehearse.specs.declared.course_end.CourseEnd.{CourseEnd}
 
 -- the courses, and how many batches they open in all
 abbrev pub courses_json : FleetView → List Course → List ℕ

@@ -1,7 +1,7 @@
 -- What holds of the objects that are written of texts.
 use Rattle.std.specs.Prelude.{◌≡◌, ℕ, List}
-use Rattle.planning.specs.declared.end.End.{End}
-use Rattle.rehearsing.specs.declared.course_end.CourseEnd.{CourseEnd}
+use Rattle.plan_command.specs.declared.end.End.{End}
+use Rattle.rehearse.specs.declared.course_end.CourseEnd.{CourseEnd}
 use Rattle.json_commands.specs.CourseTexts.{IsCourseJson}
 use Rattle.json_commands.specs.PlanTexts.{IsPlanJson}
 

@@ -3,10 +3,10 @@ use Rattle.std.specs.Prelude.{ℕ, List, Option}
 use Rattle.std.specs.Io.KnownBytes.{Appends, Keeps}
 use Rattle.bounded_io.specs.Sending.{SendsFirst}
 use Rattle.domains.specs.FleetViews.{FleetView}
-use Rattle.json_texts.specs.LimitsJson.{fleet_json}
-use Rattle.planning.specs.PlanTexts.{IsFleetIn, IsUnread}
-use Rattle.planning.specs.declared.fault.PlanFault.{PlanFault}
-use Rattle.planning.specs.declared.fault.PlanFault.TheVariants.{Read, Fleet, Playbook, Pattern, Write}
+use Rattle.json_output.specs.LimitsJson.{fleet_json}
+use Rattle.plan_command.specs.PlanTexts.{IsFleetIn, IsUnread}
+use Rattle.plan_command.specs.declared.fault.PlanFault.{PlanFault}
+use Rattle.plan_command.specs.declared.fault.PlanFault.TheVariants.{Read, Fleet, Playbook, Pattern, Write}
 
 -- the limits of the fleet that the text says went out, and nothing else
 pub record WritesLimits (inventory : List ℕ) (old new : Option (List ℕ)) : Type 0 where

@@ -4,12 +4,12 @@ use Rattle.std.specs.Io.KnownBytes.{Appends}
 use Rattle.bounded_io.specs.Sending.{SendsFirst}
 use Rattle.domains.specs.FleetViews.{FleetView}
 use Rattle.batch_plan.specs.declared.answers.Answer.{Answer}
-use Rattle.json_texts.specs.PlanJson.{plan_json}
-use Rattle.planning.specs.Ends.{end_of}
-use Rattle.planning.specs.PlanTexts.{IsPlanIn, IsTrueFault}
-use Rattle.planning.specs.declared.end.End.{End}
-use Rattle.planning.specs.declared.fault.PlanFault.{PlanFault}
-use Rattle.planning.specs.declared.fault.PlanFault.TheVariants.{Read, Fleet, Playbook, Pattern, Write}
+use Rattle.json_output.specs.PlanJson.{plan_json}
+use Rattle.plan_command.specs.Ends.{end_of}
+use Rattle.plan_command.specs.PlanTexts.{IsPlanIn, IsTrueFault}
+use Rattle.plan_command.specs.declared.end.End.{End}
+use Rattle.plan_command.specs.declared.fault.PlanFault.{PlanFault}
+use Rattle.plan_command.specs.declared.fault.PlanFault.TheVariants.{Read, Fleet, Playbook, Pattern, Write}
 
 -- the text is the plan of both texts, which ends so
 pub record IsPlanJson (inventory playbook : List ℕ) (text : List ℕ) (end : End) : Type 0 where

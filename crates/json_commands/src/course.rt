@@ -3,8 +3,8 @@ ghost use Rattle.std.specs.Prelude.{IfErr, IfOk};
 ghost use Rattle.json_commands.specs.CourseTexts.{IsTrueCourseJsonFault, WritesCourseJson};
 
 use crate::courses::send_courses_json;
-use planning::{PlanFault, read_fleet, read_known_plays};
-use rehearsing::{CourseEnd, foresee, last_end};
+use plan_command::{PlanFault, read_fleet, read_known_plays};
+use rehearse::{CourseEnd, foresee, last_end};
 use std::alloc::Global;
 use std::io::Write;
 

@@ -4,16 +4,16 @@ ghost use Rattle.std.specs.List.{sum_by};
 ghost use Rattle.bounded_io.specs.Sending.{SendsText};
 ghost use Rattle.bounded_io.specs.Writing.{Writes};
 ghost use Rattle.json_commands.specs.CourseTexts.{courses_json};
-ghost use Rattle.json_texts.specs.Arrays.{array_text, comma_if, entries_text};
-ghost use Rattle.json_texts.specs.PlayJson.{course_json};
-ghost use Rattle.rehearsing.specs.CourseSteps.{course_of};
-ghost use Rattle.rehearsing.specs.CourseTexts.{batches_opened};
+ghost use Rattle.json_output.specs.Arrays.{array_text, comma_if, entries_text};
+ghost use Rattle.json_output.specs.PlayJson.{course_json};
+ghost use Rattle.rehearse.specs.CourseSteps.{course_of};
+ghost use Rattle.rehearse.specs.CourseTexts.{batches_opened};
 
 use bounded_io::{TextWriter, WriteFault};
 use domains::Fleet;
-use json_texts::{write_comma, write_course_json};
+use json_output::{write_comma, write_course_json};
 use recap::write_field;
-use rehearsing::{PlayCourse, count_batches};
+use rehearse::{PlayCourse, count_batches};
 use std::io::Write;
 
 /// Writes the course at this place of a file's.

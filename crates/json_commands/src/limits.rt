@@ -2,8 +2,8 @@
 ghost use Rattle.std.specs.Prelude.{IfErr, OnOk};
 ghost use Rattle.json_commands.specs.LimitsTexts.{IsTrueLimitsFault, WritesLimits};
 
-use json_texts::write_limits_json;
-use planning::{PlanFault, read_fleet};
+use json_output::write_limits_json;
+use plan_command::{PlanFault, read_fleet};
 use std::alloc::Global;
 use std::io::Write;
 

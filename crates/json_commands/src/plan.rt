@@ -1,13 +1,13 @@
 //! From the bytes of an inventory and a playbook to the plan.
 ghost use Rattle.std.specs.Prelude.{◌≡◌, ◌<◌, IfErr, IfOk, None, length};
 ghost use Rattle.domains.specs.Ids.{host_numbers};
-ghost use Rattle.planning.specs.PlanTexts.{IsPlaybookFault, IsPlaybookPlan};
+ghost use Rattle.plan_command.specs.PlanTexts.{IsPlaybookFault, IsPlaybookPlan};
 ghost use Rattle.json_commands.specs.PlanTexts.{IsTruePlanFault, WritesPlanJson};
 
 use domains::Fleet;
-use json_texts::write_plan_json;
-use planning::{End, PlanFault, end_of, read_fleet, read_known_plays};
-use play_course::{PlayPlan, plan_play};
+use json_output::write_plan_json;
+use plan_command::{End, PlanFault, end_of, read_fleet, read_known_plays};
+use play_forecast::{PlayPlan, plan_play};
 use std::alloc::Global;
 use std::io::Write;
 

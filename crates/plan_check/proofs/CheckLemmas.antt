@@ -3,10 +3,10 @@ use Rattle.std.proofs.Common.{◌≡◌, ℕ, ◌<◌, Option, None, List, ◌�
 use Rattle.std.specs.Io.KnownBytes.{Keeps}
 use Rattle.domains.specs.FleetViews.{FleetView}
 use Rattle.play_model.specs.declared.play.Play.{Play}
-use Rattle.planning.specs.PlanTexts.{ArePlaysIn, IsFirstPlan, IsFleetIn, IsPlaybookFault, IsUnread}
-use Rattle.planning.specs.declared.fault.PlanFault.{PlanFault}
-use Rattle.planning.specs.declared.fault.PlanFault.TheVariants.{Read, Fleet, Playbook, Pattern, Write}
-use Rattle.planning.proofs.TextLemmas.{refused_is_true}
+use Rattle.plan_command.specs.PlanTexts.{ArePlaysIn, IsFirstPlan, IsFleetIn, IsPlaybookFault, IsUnread}
+use Rattle.plan_command.specs.declared.fault.PlanFault.{PlanFault}
+use Rattle.plan_command.specs.declared.fault.PlanFault.TheVariants.{Read, Fleet, Playbook, Pattern, Write}
+use Rattle.plan_command.proofs.TextLemmas.{refused_is_true}
 use Rattle.plan_check.specs.CheckTexts.{IsTrueFault, IsVerdictIn}
 use Rattle.plan_check.specs.Listings.{bad_line}
 use Rattle.plan_check.specs.Openings.{IsVerdictOn}

@@ -3,7 +3,7 @@ use Rattle.std.proofs.Common.{◌≡◌, ℕ, zero, suc, ◌+◌, ◌-◌, ◌�
 use Rattle.std.proofs.Common.{cond, is_some, Option, None, Some, List, length, get_or, refl, sym, ap, ◌∙◌, arith}
 use Rattle.std.specs.Prelude.{option_map, unwrap_or}
 use Rattle.std.specs.List.{count_by, find, range_with_len}
-use Rattle.fleet_numbers.specs.NumberLists.{has_number, list_at}
+use Rattle.fleet_index.specs.NumberLists.{has_number, list_at}
 use Rattle.domains.specs.FleetViews.{FleetView, IsSound}
 use Rattle.domains.specs.Starts.{exceeds}
 use Rattle.fleet_states.specs.declared.status.Status.{Status}
@@ -14,7 +14,7 @@ use Rattle.fleet_states.proofs.GroupLemmas.{get_or-groups_of, group_of, length-g
 use Rattle.batch_plan.specs.Checks.{chain_count}
 use Rattle.plan_check.specs.Inside.{AreCounts, AreRooms, first_over}
 use Rattle.plan_check.specs.declared.wrong.Wrong.TheVariants.{Over}
-use Rattle.plan_check.specs.Wrongs.{group_id, is_over, members_in, over_in, wrong_groups}
+use Rattle.plan_check.specs.PlanErrors.{group_id, is_over, members_in, over_in, wrong_groups}
 
 -- tests that agree find the same
 find_same : (p q : ℕ → Bool) (a n : ℕ) → ((j : ℕ) → a ≤ j → j < a + n → p j ≡ q j) → find p (range_with_len a n) ≡ find q (range_with_len a n)

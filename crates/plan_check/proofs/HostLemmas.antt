@@ -6,7 +6,7 @@ use Rattle.std.proofs.lemmas.List.{drop_more, take_more}
 use Rattle.fleet_states.specs.declared.status.Status.{Status}
 use Rattle.plan_check.specs.declared.wrong.Wrong.{Wrong}
 use Rattle.plan_check.specs.declared.wrong.Wrong.TheVariants.{Missing}
-use Rattle.plan_check.specs.Wrongs.{behind, host_id, is_left_out, wrong_end, wrong_host, wrong_hosts}
+use Rattle.plan_check.specs.PlanErrors.{behind, host_id, is_left_out, wrong_end, wrong_host, wrong_hosts}
 use Rattle.plan_check.proofs.LawLemmas.{find_first, find_none}
 
 behind_push : (before xs : List ℕ) (x : ℕ) → behind before (xs ++ x ∷ []) ≡ x ∷ behind before xs

@@ -5,8 +5,8 @@ use Rattle.std.specs.List.{count_by, list_all}
 use Rattle.std.specs.Option.{option_or}
 use Rattle.std.proofs.lemmas.Bool.{and_from, and_parts, lt-ltb}
 use Rattle.std.proofs.lemmas.List.{drop_more, get_or-replicate, get_or-take, length-replicate}
-use Rattle.fleet_numbers.specs.NumberLists.{are_below, has_number, numbers_where}
-use Rattle.fleet_numbers.proofs.RisingLemmas.{has_number-numbers_where}
+use Rattle.fleet_index.specs.NumberLists.{are_below, has_number, numbers_where}
+use Rattle.fleet_index.proofs.RisingLemmas.{has_number-numbers_where}
 use Rattle.domains.specs.FleetViews.{FleetView}
 use Rattle.fleet_states.specs.declared.status.Status.{Status}
 use Rattle.fleet_states.specs.Statuses.{are_distinct}
@@ -16,7 +16,7 @@ use Rattle.batch_plan.proofs.FittingLemmas.{known_hosts}
 use Rattle.batch_plan.proofs.WhereLemmas.{length-where}
 use Rattle.plan_check.specs.Inside.{AreMarks}
 use Rattle.plan_check.specs.declared.wrong.Wrong.{Wrong}
-use Rattle.plan_check.specs.Wrongs.{behind, wrong_batch, wrong_from, wrong_hosts}
+use Rattle.plan_check.specs.PlanErrors.{behind, wrong_batch, wrong_from, wrong_hosts}
 use Rattle.plan_check.proofs.LawLemmas.{bit_small, hosts_none}
 
 -- the hosts whose marks are set

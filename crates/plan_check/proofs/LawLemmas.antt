@@ -7,7 +7,7 @@ use Rattle.std.specs.Option.{option_or}
 use Rattle.std.proofs.lemmas.Bool.{and_from, and_parts, cases_eq, eq-eqb, false_from_ne_true, lt-ltb, ltb-true, ne_eqb, not-true}
 use Rattle.std.proofs.lemmas.List.{get_or_default}
 use Rattle.std.proofs.lemmas.List.Sums.{AllPass-from_list_all, list_all-from_AllPass, sum_by-cons}
-use Rattle.fleet_numbers.specs.NumberLists.{has_number, list_at}
+use Rattle.fleet_index.specs.NumberLists.{has_number, list_at}
 use Rattle.domains.specs.FleetViews.{FleetView, IsSound}
 use Rattle.domains.specs.Starts.{exceeds}
 use Rattle.fleet_states.specs.declared.status.Status.{Status}
@@ -21,7 +21,7 @@ use Rattle.batch_plan.proofs.CountLemmas.{count_absent}
 use Rattle.batch_plan.proofs.ExactLemmas.{plan_from, plan_keeps_cap, plan_keeps_room}
 use Rattle.plan_check.specs.declared.wrong.Wrong.{Wrong}
 use Rattle.plan_check.specs.declared.wrong.Wrong.TheVariants.{NotWaiting, Size, Twice}
-use Rattle.plan_check.specs.Wrongs.{behind, host_id, is_left_out, is_over, over_in, wrong_batch, wrong_from, wrong_groups, wrong_host, wrong_hosts, wrong_size, wrong_start, wrong_with}
+use Rattle.plan_check.specs.PlanErrors.{behind, host_id, is_left_out, is_over, over_in, wrong_batch, wrong_from, wrong_groups, wrong_host, wrong_hosts, wrong_size, wrong_start, first_plan_error}
 
 or_none : {T : Type 0} (a b : Option T) → option_or a b ≡ None → (a ≡ None) × (b ≡ None)
 or_none None b e = (refl, e)
@@ -306,12 +306,12 @@ module _ (statuses : List Status) where
         not-true (is_over (groups_of fleet) statuses (list_at batches place) group)
         (AllPass-from_list_all (keeps_group (group_at (groups_of fleet) group)) batches all place [] within)
 
-    pub is_plan : (batches : List (List ℕ)) → IsSound fleet → wrong_with fleet statuses cap batches ≡ None → IsPlan (groups_of fleet) statuses cap batches
+    pub is_plan : (batches : List (List ℕ)) → IsSound fleet → first_plan_error fleet statuses cap batches ≡ None → IsPlan (groups_of fleet) statuses cap batches
     is_plan batches sound e =
         let fine = from_none 1 [] batches (λ h. omega arith) e in
         plan_from fleet statuses cap batches sound (λ host within. omega (arith, fine.times host within)) fine.keep (rooms_kept batches fine.rooms)
 
-    pub plan_is_fine : (batches : List (List ℕ)) → IsPlan (groups_of fleet) statuses cap batches → wrong_with fleet statuses cap batches ≡ None
+    pub plan_is_fine : (batches : List (List ℕ)) → IsPlan (groups_of fleet) statuses cap batches → first_plan_error fleet statuses cap batches ≡ None
     plan_is_fine batches plan =
         from_fine 1 [] batches
         (record {

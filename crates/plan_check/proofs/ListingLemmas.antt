@@ -12,7 +12,7 @@ use Rattle.std.proofs.lemmas.List.{append_cancel_right, drop-drop, take_all}
 use Rattle.std.proofs.lemmas.List.Elements.{All-from_get_or}
 use Rattle.std.proofs.lemmas.List.Splits.{slice_split_first, slice_split_none}
 use Rattle.std.proofs.lemmas.List.Sums.{fails_before_first, prefix_len-le-length}
-use Rattle.rehearsing.specs.Lines.{is_feed}
+use Rattle.rehearse.specs.Lines.{is_feed}
 use Rattle.plan_check.specs.Listings.{label, lines_of}
 
 pub line_within : (text : List ℕ) → position_or_len is_feed text ≤ length text

@@ -4,7 +4,7 @@ use Rattle.group_tree.specs.Names.{Name}
 use Rattle.group_tree.specs.declared.ids.GroupId.{GroupId}
 use Rattle.domains.specs.FleetViews.{FleetView, IsSound}
 use Rattle.domains.specs.Patterns.{named_hosts}
-use Rattle.text_parts.specs.Patterns.{parts_of}
+use Rattle.text_syntax.specs.Patterns.{parts_of}
 use Rattle.fleet_states.specs.declared.status.Status.{Status}
 use Rattle.fleet_states.specs.Starts.{start_statuses}
 use Rattle.fleet_states.specs.Groups.{groups_of}
@@ -17,16 +17,16 @@ use Rattle.play_model.specs.declared.on_blocked.OnBlocked.{OnBlocked}
 use Rattle.play_model.specs.declared.play.Play.{Play}
 use Rattle.play_model.specs.declared.size.Size.{Size}
 use Rattle.play_model.specs.Sizes.{cap}
-use Rattle.play_course.specs.PlayPlans.{aside_at_start, aside_by, first_cap, first_statuses, targets}
-use Rattle.play_course.proofs.AlikeLemmas.{AreAlike, one_plan}
-use Rattle.planning.proofs.UniqueLemmas.{first_alike, one_fleet_in}
+use Rattle.play_forecast.specs.PlayPlans.{aside_at_start, aside_by, first_cap, first_statuses, targets}
+use Rattle.play_forecast.proofs.AlikeLemmas.{AreAlike, one_plan}
+use Rattle.plan_command.proofs.UniqueLemmas.{first_alike, one_fleet_in}
 use Rattle.plan_check.specs.CheckTexts.{IsVerdictIn}
 use Rattle.plan_check.specs.Laws.{IsValid, OneCheckText, PlansAreValid, ValidIsOfPlans}
 use Rattle.plan_check.specs.Listings.{batches_of}
 use Rattle.plan_check.specs.Names.{Nobody, batches_named, nobody_in}
 use Rattle.plan_check.specs.Verdicts.{Verdict, end_of, judged, valid, verdict_by, verdict_on}
 use Rattle.plan_check.specs.VerdictText.{verdict_text}
-use Rattle.plan_check.specs.Wrongs.{wrong_with}
+use Rattle.plan_check.specs.PlanErrors.{first_plan_error}
 use Rattle.plan_check.specs.declared.wrong.Wrong.{Wrong}
 use Rattle.plan_check.proofs.LawLemmas.{is_plan, plan_is_fine}
 
@@ -36,7 +36,7 @@ module _ (fleet : FleetView) (statuses : List Status) (most : Option ℕ) (names
   told_valid (Blocked group waiting) count least sound best e = absurd (cc)
   told_valid (Planned plan) count least sound best e = by_nobody (nobody_in fleet names) refl e
     where
-      by_wrong : (o : Option Wrong) → nobody_in fleet names ≡ None → wrong_with fleet statuses most (batches_named fleet names) ≡ o
+      by_wrong : (o : Option Wrong) → nobody_in fleet names ≡ None → first_plan_error fleet statuses most (batches_named fleet names) ≡ o
           → valid count least ≡ verdict_by (length names) (length plan.batches) o
           → IsValid fleet statuses most names count least
       by_wrong (Some wrong) known is e = absurd (cc)
@@ -54,7 +54,7 @@ module _ (fleet : FleetView) (statuses : List Status) (most : Option ℕ) (names
       by_nobody : (o : Option Nobody) → nobody_in fleet names ≡ o
           → valid count least ≡ judged fleet statuses most (length plan.batches) names o → IsValid fleet statuses most names count least
       by_nobody (Some nobody) is e = absurd (cc)
-      by_nobody None is e = by_wrong (wrong_with fleet statuses most (batches_named fleet names)) is refl e
+      by_nobody None is e = by_wrong (first_plan_error fleet statuses most (batches_named fleet names)) is refl e
 
   plan_told : (answer : Answer) → IsBest fleet statuses most answer → nobody_in fleet names ≡ None → IsPlan (groups_of fleet) statuses most (batches_named fleet names)
       → (least : ℕ) × (verdict_on fleet statuses most answer names ≡ valid (length names) least)

@@ -10,14 +10,14 @@ use Rattle.batch_plan.specs.declared.answers.Answer.{Answer}
 use Rattle.batch_plan.specs.declared.answers.Answer.TheVariants.{Planned}
 use Rattle.batch_plan.specs.declared.answers.Plan.{Plan}
 use Rattle.play_model.specs.declared.play.Play.{Play}
-use Rattle.play_course.specs.PlayPlans.{first_cap, first_statuses}
+use Rattle.play_forecast.specs.PlayPlans.{first_cap, first_statuses}
 use Rattle.plan_check.specs.Listings.{batches_of}
 use Rattle.plan_check.specs.Names.{batches_named, nobody_in, numbers_named}
 use Rattle.plan_check.specs.Openings.{IsOpeningOf, IsVerdictOn}
 use Rattle.plan_check.specs.Shown.{shown}
 use Rattle.plan_check.specs.Verdicts as verdicts
 use Rattle.plan_check.specs.Verdicts.{judged, verdict_by, verdict_on}
-use Rattle.plan_check.specs.Wrongs.{wrong_with}
+use Rattle.plan_check.specs.PlanErrors.{first_plan_error}
 use Rattle.plan_check.specs.declared.opening.Opening.{Opening}
 use Rattle.plan_check.specs.declared.verdict.Verdict.{Verdict}
 
@@ -27,10 +27,10 @@ same_ok (Err e) told other is same = is
 
 -- batches of known hosts
 pub known_told : (fleet : FleetView) (statuses : List Status) (cap : Option ℕ) (least : ℕ) (names : List (List Name)) (found : List (List ℕ)) → nobody_in fleet names ≡ None
-    → found ≡ batches_named fleet names → verdict_by (length found) least (wrong_with fleet statuses cap found) ≡ judged fleet statuses cap least names (nobody_in fleet names)
+    → found ≡ batches_named fleet names → verdict_by (length found) least (first_plan_error fleet statuses cap found) ≡ judged fleet statuses cap least names (nobody_in fleet names)
 known_told fleet statuses cap least names found none is =
-    ap (λ (l : List (List ℕ)). verdict_by (length l) least (wrong_with fleet statuses cap l)) is
-    ∙ ap (λ n. verdict_by n least (wrong_with fleet statuses cap (batches_named fleet names))) (length-map names (numbers_named fleet))
+    ap (λ (l : List (List ℕ)). verdict_by (length l) least (first_plan_error fleet statuses cap l)) is
+    ∙ ap (λ n. verdict_by n least (first_plan_error fleet statuses cap (batches_named fleet names))) (length-map names (numbers_named fleet))
     ∙ sym (ap (judged fleet statuses cap least names) none)
 
 -- a play that begins so

@@ -5,10 +5,10 @@ use Rattle.bounded_io.specs.Sending.{SendsFirst}
 use Rattle.domains.specs.FleetViews.{FleetView}
 use Rattle.batch_plan.specs.declared.answers.Answer.{Answer}
 use Rattle.play_model.specs.declared.play.Play.{Play}
-use Rattle.play_course.specs.PlayPlans.{first_cap, first_statuses}
-use Rattle.planning.specs.PlanTexts as plans
-use Rattle.planning.specs.PlanTexts.{ArePlaysIn, IsFleetIn, IsPlanIn}
-use Rattle.planning.specs.declared.fault.PlanFault.TheVariants.{Read, Fleet, Playbook, Pattern, Write}
+use Rattle.play_forecast.specs.PlayPlans.{first_cap, first_statuses}
+use Rattle.plan_command.specs.PlanTexts as plans
+use Rattle.plan_command.specs.PlanTexts.{ArePlaysIn, IsFleetIn, IsPlanIn}
+use Rattle.plan_command.specs.declared.fault.PlanFault.TheVariants.{Read, Fleet, Playbook, Pattern, Write}
 use Rattle.plan_check.specs.Listings.{bad_line, batches_of}
 use Rattle.plan_check.specs.Verdicts.{Verdict, end_of, verdict_on}
 use Rattle.plan_check.specs.VerdictText.{verdict_text}

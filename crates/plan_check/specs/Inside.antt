@@ -3,13 +3,13 @@ use Rattle.std.specs.Prelude.{◌≡◌, ℕ, ◌<◌, false, Bool, Option, Some
 use Rattle.std.specs.List.{find, range_with_len}
 use Rattle.std.specs.Borrow.{Bor}
 use Rattle.group_tree.specs.Names.{Name}
-use Rattle.fleet_numbers.specs.NumberLists.{has_number}
+use Rattle.fleet_index.specs.NumberLists.{has_number}
 use Rattle.domains.specs.FleetViews.{FleetView}
 use Rattle.domains.specs.Starts.{exceeds}
 use Rattle.fleet_states.specs.declared.status.Status.{Status}
 use Rattle.fleet_states.specs.Groups.{group_at, groups_of, room}
 use Rattle.batch_plan.specs.Checks.{chain_count}
-use Rattle.rehearsing.specs.Names.{first_nobody, hosts_named}
+use Rattle.rehearse.specs.Names.{first_nobody, hosts_named}
 use Rattle.plan_check.specs.Names.{batches_named, nobody_in, numbers_named}
 use Rattle.plan_check.specs.declared.terms.Terms.{Terms}
 use Rattle.plan_check.specs.declared.naming.Named.{Named}

@@ -5,19 +5,19 @@ use Rattle.domains.specs.FleetViews.{FleetView, IsSound}
 use Rattle.fleet_states.specs.declared.status.Status.{Status}
 use Rattle.fleet_states.specs.Groups.{groups_of}
 use Rattle.batch_plan.specs.Plans.{IsPlan}
-use Rattle.play_course.specs.PlayPlans.{first_cap, first_statuses}
+use Rattle.play_forecast.specs.PlayPlans.{first_cap, first_statuses}
 use Rattle.plan_check.specs.CheckTexts.{IsCheckText, IsVerdictIn}
 use Rattle.plan_check.specs.Listings.{batches_of}
 use Rattle.plan_check.specs.Names.{batches_named, nobody_in}
 use Rattle.plan_check.specs.Verdicts.{Verdict, valid}
-use Rattle.plan_check.specs.Wrongs.{wrong_with}
+use Rattle.plan_check.specs.PlanErrors.{first_plan_error}
 use Rattle.plan_check.specs.declared.end.CheckEnd.{CheckEnd}
 
 -- nothing is wrong with batches exactly where they are a plan
 abbrev pub NothingIsWrongWithPlans : Type 0
 NothingIsWrongWithPlans =
     (fleet : FleetView) (statuses : List Status) (cap : Option ℕ) (batches : List (List ℕ)) → IsSound fleet → length statuses ≡ length fleet.hosts
-    → (wrong_with fleet statuses cap batches ≡ None) ↔ IsPlan (groups_of fleet) statuses cap batches
+    → (first_plan_error fleet statuses cap batches ≡ None) ↔ IsPlan (groups_of fleet) statuses cap batches
 
 -- what `valid` tells: each name is a host's, the batches are a plan, and so many; no plan has fewer batches than the least number, and one has so many
 pub record IsValid (fleet : FleetView) (statuses : List Status) (cap : Option ℕ) (batches : List (List Name)) (count least : ℕ) : Type 0 where

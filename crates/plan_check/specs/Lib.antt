@@ -1,6 +1,6 @@
 pub mod Listings
 pub mod Names
-pub mod Wrongs
+pub mod PlanErrors
 pub mod Verdicts
 pub mod VerdictText
 pub mod CheckTexts

@@ -3,8 +3,8 @@ use Rattle.std.specs.Prelude.{ℕ, ◌+◌, Bool, false, not, ◌&&◌, ◌||◌
 use Rattle.std.specs.List.{list_all, slice_split, starts_with}
 use Rattle.std.specs.Str.{bytes_eq}
 use Rattle.group_tree.specs.Names.{Name, is_name}
-use Rattle.rehearsing.specs.Commands.{Word, words_of}
-use Rattle.rehearsing.specs.Lines.{is_feed, without_return}
+use Rattle.rehearse.specs.Commands.{Word, words_of}
+use Rattle.rehearse.specs.Lines.{is_feed, without_return}
 
 -- the lines of a text; what stands behind the last line feed is a line too
 abbrev pub lines_of : List ℕ → List (List ℕ)

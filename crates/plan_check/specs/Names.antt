@@ -1,9 +1,9 @@
 -- The hosts of the names in batches.
 use Rattle.std.specs.Prelude.{ℕ, ◌+◌, Option, Some, None, List, [], ◌∷◌, map}
 use Rattle.group_tree.specs.Names.{Name}
-use Rattle.fleet_numbers.specs.Ids.{host_numbers}
+use Rattle.fleet_index.specs.Ids.{host_numbers}
 use Rattle.domains.specs.FleetViews.{FleetView}
-use Rattle.rehearsing.specs.Names.{first_nobody, hosts_named}
+use Rattle.rehearse.specs.Names.{first_nobody, hosts_named}
 
 -- a name that is no host's, in the batch of this number
 pub record Nobody : Type 0 where

@@ -2,7 +2,7 @@
 use Rattle.std.specs.Prelude.{◌≡◌, ℕ, List}
 use Rattle.domains.specs.FleetViews.{FleetView}
 use Rattle.play_model.specs.declared.play.Play.{Play}
-use Rattle.play_course.specs.PlayPlans.{IsPlanOf, first_cap, first_statuses}
+use Rattle.play_forecast.specs.PlayPlans.{IsPlanOf, first_cap, first_statuses}
 use Rattle.batch_plan.specs.declared.answers.Answer.{Answer}
 use Rattle.plan_check.specs.Listings.{batches_of}
 use Rattle.plan_check.specs.Shown.{shown}

@@ -6,7 +6,7 @@ use Rattle.fleet_states.specs.declared.status.Status.{Status}
 use Rattle.batch_plan.specs.declared.answers.Answer.{Answer}
 use Rattle.batch_plan.specs.declared.answers.Answer.TheVariants.{Planned, Blocked}
 use Rattle.plan_check.specs.Names.{Nobody, batches_named, nobody_in}
-use Rattle.plan_check.specs.Wrongs.{wrong_with}
+use Rattle.plan_check.specs.PlanErrors.{first_plan_error}
 use Rattle.plan_check.specs.declared.wrong.Wrong.{Wrong}
 use Rattle.plan_check.specs.declared.end.CheckEnd.{CheckEnd}
 use Rattle.plan_check.specs.declared.end.CheckEnd.TheVariants as ends
@@ -25,7 +25,7 @@ verdict_by count least None = valid count least
 -- what is told of batches of names where there are plans, the least of which has so many batches
 abbrev pub judged : FleetView → List Status → Option ℕ → ℕ → List (List Name) → Option Nobody → Verdict
 judged fleet statuses cap least batches (Some name) = nobody name
-judged fleet statuses cap least batches None = verdict_by (length batches) least (wrong_with fleet statuses cap (batches_named fleet batches))
+judged fleet statuses cap least batches None = verdict_by (length batches) least (first_plan_error fleet statuses cap (batches_named fleet batches))
 
 -- what is told of batches of names, where the planner answers so
 abbrev pub verdict_on : FleetView → List Status → Option ℕ → Answer → List (List Name) → Verdict

@@ -3,8 +3,8 @@ ghost use Rattle.std.specs.Prelude.{◌≡◌, ℕ, [], IfNone, IfOk, List, leng
 ghost use Rattle.domains.specs.Ids.{host_numbers};
 ghost use Rattle.domains.specs.FleetViews.{IsSound};
 ghost use Rattle.plan_check.specs.Inside.{AreMarks, AreTerms};
-ghost use Rattle.plan_check.specs.Wrongs as model;
-ghost use Rattle.plan_check.specs.Wrongs.{behind};
+ghost use Rattle.plan_check.specs.PlanErrors as model;
+ghost use Rattle.plan_check.specs.PlanErrors.{behind};
 
 use crate::groups::{list_rooms, wrong_groups};
 use crate::hosts::{wrong_end, wrong_hosts};
@@ -71,7 +71,7 @@ fn wrong_from(terms: &Terms<'_>, stood: &mut [bool], batches: &Batches) -> Optio
     requires len { length stood.old ≡ length terms.now.statuses.now }
     requires sound { IsSound terms.now.fleet.now }
     requires none { AreMarks stood.old [] }
-    ensures { result ≡ model.wrong_with terms.now.fleet.now terms.now.statuses.now terms.now.cap batches.now }
+    ensures { result ≡ model.first_plan_error terms.now.fleet.now terms.now.statuses.now terms.now.cap batches.now }
 {
     for place in 0..batches.len() {
         if let Some(wrong) = wrong_batch(terms, stood, place + 1, batches.at(place)) {
@@ -84,7 +84,7 @@ fn wrong_from(terms: &Terms<'_>, stood: &mut [bool], batches: &Batches) -> Optio
 /// The first thing that is wrong with the batches, by terms whose rooms are those of the groups.
 fn wrong_by(terms: &Terms<'_>, batches: &Batches) -> Option<Wrong>
     requires terms { AreTerms terms.now }
-    ensures { result ≡ model.wrong_with terms.now.fleet.now terms.now.statuses.now terms.now.cap batches.now }
+    ensures { result ≡ model.first_plan_error terms.now.fleet.now terms.now.statuses.now terms.now.cap batches.now }
 {
     let mut stood = [false; HOSTS_BOUND];
     let hosts = terms.fleet.hosts();
@@ -92,7 +92,7 @@ fn wrong_by(terms: &Terms<'_>, batches: &Batches) -> Option<Wrong>
 }
 
 /// The first thing that is wrong with batches as a plan of these statuses: batch by batch, and then who is missing. Only want of memory refuses it.
-pub fn wrong_with(
+pub fn first_plan_error(
     alloc: Global,
     fleet: &Fleet,
     statuses: &[Status],
@@ -100,7 +100,7 @@ pub fn wrong_with(
     batches: &Batches,
 ) -> Result<Option<Wrong>, AllocError>
     requires { length statuses.now ≡ length fleet.now.hosts }
-    ensures { IfOk result (λ wrong. wrong ≡ model.wrong_with fleet.now statuses.now cap batches.now) }
+    ensures { IfOk result (λ wrong. wrong ≡ model.first_plan_error fleet.now statuses.now cap batches.now) }
 {
     let rooms = list_rooms(alloc, fleet, statuses)?;
     let terms = Terms {

@@ -9,7 +9,7 @@ use crate::listing::find_bad_line;
 use crate::verdict::send_verdict;
 use bounded_io::MAX_INPUT;
 use domains::PatternFault;
-use planning::{PlanFault, read_fleet, read_known_plays};
+use plan_command::{PlanFault, read_fleet, read_known_plays};
 use std::alloc::Global;
 use std::io::Write;
 

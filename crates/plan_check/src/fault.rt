@@ -1,5 +1,5 @@
 //! Why nothing is told of a plan.
-use planning::PlanFault;
+use plan_command::PlanFault;
 
 /// What is wrong with one of the three texts, or with the output; of several faults the first in the order inventory, playbook, patterns, plan, output.
 #[derive(Debug, Drop)]

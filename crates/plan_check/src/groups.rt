@@ -1,18 +1,18 @@
 //! The groups of which a batch has too many hosts.
 ghost use Rattle.std.specs.Prelude.{◌≡◌, ℕ, ◌+◌, ◌<◌, ◌^◌, true, IfOk, length, slice_index};
-ghost use Rattle.fleet_numbers.specs.NumberLists.{are_below};
+ghost use Rattle.fleet_index.specs.NumberLists.{are_below};
 ghost use Rattle.domains.specs.Ids.{host_numbers};
 ghost use Rattle.domains.specs.FleetViews.{IsSound};
 ghost use Rattle.domains.specs.Starts as starts;
 ghost use Rattle.fleet_states.specs.Groups.{groups_of};
 ghost use Rattle.plan_check.specs.Inside.{AreCounts, AreRooms, AreTerms, first_over};
-ghost use Rattle.plan_check.specs.Wrongs as model;
+ghost use Rattle.plan_check.specs.PlanErrors as model;
 
 use crate::terms::Terms;
 use crate::wrong::Wrong;
 use batch_plan::room;
 use domains::Fleet;
-use fleet_numbers::raise_counts;
+use fleet_index::raise_counts;
 use fleet_states::Status;
 use group_tree::{GroupId, HostId};
 use std::alloc::{AllocError, Global};

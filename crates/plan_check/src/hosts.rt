@@ -2,8 +2,8 @@
 ghost use Rattle.std.specs.Prelude.{◌≡◌, ℕ, ◌∷◌, IfNone, List, length};
 ghost use Rattle.domains.specs.Ids.{host_numbers};
 ghost use Rattle.plan_check.specs.Inside.{AreMarks};
-ghost use Rattle.plan_check.specs.Wrongs as model;
-ghost use Rattle.plan_check.specs.Wrongs.{behind};
+ghost use Rattle.plan_check.specs.PlanErrors as model;
+ghost use Rattle.plan_check.specs.PlanErrors.{behind};
 
 use crate::wrong::Wrong;
 use fleet_states::{Status, status_of};

@@ -6,9 +6,9 @@ ghost use Rattle.plan_check.specs.Openings.{IsVerdictOn};
 ghost use Rattle.plan_check.specs.Shown.{shown};
 ghost use Rattle.plan_check.specs.Verdicts as model;
 ghost use Rattle.plan_check.specs.Verdicts.{judged};
-ghost use Rattle.plan_check.specs.Wrongs as wrongs;
+ghost use Rattle.plan_check.specs.PlanErrors as wrongs;
 
-use crate::batches::wrong_with;
+use crate::batches::first_plan_error;
 use crate::naming::{NamedBatches, find_batches};
 use crate::opening::{Opening, open_play};
 use crate::verdict::Verdict;
@@ -38,10 +38,10 @@ fn judge_batches<'t>(
 ) -> Result<Verdict<'t>, AllocError>
     requires { length opening.now.statuses.items ≡ length fleet.now.hosts }
     ensures { IfOk result (λ verdict. shown verdict
-        ≡ model.verdict_by (length batches.now) least (wrongs.wrong_with fleet.now opening.now.statuses.items opening.now.cap batches.now)) }
+        ≡ model.verdict_by (length batches.now) least (wrongs.first_plan_error fleet.now opening.now.statuses.items opening.now.cap batches.now)) }
 {
     let statuses = opening.statuses.as_slice();
-    let wrong = wrong_with(alloc, fleet, statuses, opening.cap, batches)?;
+    let wrong = first_plan_error(alloc, fleet, statuses, opening.cap, batches)?;
     Ok(verdict_by(batches.len(), least, wrong))
 }
 

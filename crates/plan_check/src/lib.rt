@@ -18,7 +18,7 @@ mod verdict;
 mod worked;
 mod wrong;
 
-pub use batches::wrong_with;
+pub use batches::first_plan_error;
 pub use check::check_text;
 pub use end::CheckEnd;
 pub use fault::CheckFault;

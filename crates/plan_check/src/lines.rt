@@ -2,9 +2,9 @@
 ghost use Rattle.std.specs.Prelude.{◌≡◌, ◌<◌, [], ◌∷◌, MatchOption, IfSome, length, not};
 ghost use Rattle.std.specs.Option.{option_map_or};
 ghost use Rattle.std.specs.List.{prefix_len};
-ghost use Rattle.rehearsing.specs.Commands as words;
-ghost use Rattle.rehearsing.specs.Commands.{words_of};
-ghost use Rattle.rehearsing.specs.Lines as lines;
+ghost use Rattle.rehearse.specs.Commands as words;
+ghost use Rattle.rehearse.specs.Commands.{words_of};
+ghost use Rattle.rehearse.specs.Lines as lines;
 ghost use Rattle.plan_check.specs.Listings.{lines_of};
 
 /// The first line, and what stands behind its line feed, where it has one.

@@ -3,7 +3,7 @@ ghost use Rattle.std.specs.Prelude.{◌≡◌, ◌∷◌, ◌+◌, ◌<◌, ◌�
 ghost use Rattle.std.specs.List.{list_all};
 ghost use Rattle.std.specs.Str.{bytes_eq};
 ghost use Rattle.group_tree.specs.Names as names;
-ghost use Rattle.rehearsing.specs.Commands.{words_of};
+ghost use Rattle.rehearse.specs.Commands.{words_of};
 ghost use Rattle.plan_check.specs.Listings as model;
 ghost use Rattle.plan_check.specs.Listings.{batch_of, bad_line, count_of, is_misnamed};
 

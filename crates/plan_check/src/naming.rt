@@ -1,7 +1,7 @@
 //! The hosts of the names in batches.
 ghost use Rattle.std.specs.Prelude.{◌≡◌, ◌<◌, ◌≤◌, ◌^◌, false, true, IfOk, MatchOption, length};
-ghost use Rattle.rehearsing.specs.Commands.{words_of};
-ghost use Rattle.rehearsing.specs.Names.{host_named, is_nobody};
+ghost use Rattle.rehearse.specs.Commands.{words_of};
+ghost use Rattle.rehearse.specs.Names.{host_named, is_nobody};
 ghost use Rattle.plan_check.specs.Listings.{batch_of, batches_of};
 ghost use Rattle.plan_check.specs.Inside.{AreNamed, AreNamedBatches, Goes};
 

@@ -6,7 +6,7 @@ use batch_plan::{Answer, set_aside, start};
 use domains::Fleet;
 use fleet_states::Status;
 use group_tree::HostId;
-use play_course::plan_play;
+use play_forecast::plan_play;
 use play_model::Play;
 use std::alloc::{AllocError, Global};
 

@@ -3,7 +3,7 @@ ghost use Rattle.std.specs.Prelude.{◌≡◌, [], ◌∷◌, ◌++◌, Some, No
 ghost use Rattle.fleet_states.specs.declared.status.Status.TheVariants.{Waiting, Idle, Off};
 ghost use Rattle.fleet_states.specs.Worked.{two_racks};
 ghost use Rattle.plan_check.specs.Listings.{bad_line, batches_of};
-ghost use Rattle.plan_check.specs.Wrongs.{group_id, host_id, wrong_with};
+ghost use Rattle.plan_check.specs.PlanErrors.{group_id, host_id, first_plan_error};
 ghost use Rattle.plan_check.specs.declared.wrong.Wrong.TheVariants.{Empty, NotWaiting, Twice, Size, Over, Missing};
 
 /// The text of `plan` is a plan's: its first line and its last one say nothing of batches.
@@ -34,13 +34,13 @@ fn other_lines_are_refused()
 
 /// Of the first rack, which has a host off, one more may go down.
 fn the_first_wrong_is_told()
-    ensures plan { wrong_with two_racks (Waiting ∷ Off ∷ Waiting ∷ Idle ∷ []) None ((0 ∷ []) ∷ (2 ∷ []) ∷ []) ≡ None }
-    ensures missing { wrong_with two_racks (Waiting ∷ Off ∷ Waiting ∷ Idle ∷ []) None ((0 ∷ []) ∷ []) ≡ Some (Missing (host_id 2)) }
-    ensures twice { wrong_with two_racks (Waiting ∷ Off ∷ Waiting ∷ Idle ∷ []) None ((0 ∷ []) ∷ (2 ∷ []) ∷ (0 ∷ []) ∷ []) ≡ Some (Twice 3 (host_id 0)) }
-    ensures within { wrong_with two_racks (Waiting ∷ Off ∷ Waiting ∷ Idle ∷ []) None ((2 ∷ 2 ∷ []) ∷ []) ≡ Some (Twice 1 (host_id 2)) }
-    ensures off { wrong_with two_racks (Waiting ∷ Off ∷ Waiting ∷ Idle ∷ []) None ((0 ∷ []) ∷ (1 ∷ []) ∷ []) ≡ Some (NotWaiting 2 (host_id 1)) }
-    ensures over { wrong_with two_racks (Waiting ∷ Off ∷ Waiting ∷ Idle ∷ []) None ((2 ∷ 0 ∷ []) ∷ []) ≡ Some (Over 1 (group_id 1) 2 1) }
-    ensures size { wrong_with two_racks (Waiting ∷ Off ∷ Waiting ∷ Idle ∷ []) (Some 1) ((2 ∷ 0 ∷ []) ∷ []) ≡ Some (Size 1 2 1) }
-    ensures empty { wrong_with two_racks (Waiting ∷ Off ∷ Waiting ∷ Idle ∷ []) None ((0 ∷ []) ∷ [] ∷ (2 ∷ 2 ∷ []) ∷ []) ≡ Some (Empty 2) }
-    ensures nobody { wrong_with two_racks (Idle ∷ Off ∷ Idle ∷ Idle ∷ []) (Some 1) [] ≡ None }
+    ensures plan { first_plan_error two_racks (Waiting ∷ Off ∷ Waiting ∷ Idle ∷ []) None ((0 ∷ []) ∷ (2 ∷ []) ∷ []) ≡ None }
+    ensures missing { first_plan_error two_racks (Waiting ∷ Off ∷ Waiting ∷ Idle ∷ []) None ((0 ∷ []) ∷ []) ≡ Some (Missing (host_id 2)) }
+    ensures twice { first_plan_error two_racks (Waiting ∷ Off ∷ Waiting ∷ Idle ∷ []) None ((0 ∷ []) ∷ (2 ∷ []) ∷ (0 ∷ []) ∷ []) ≡ Some (Twice 3 (host_id 0)) }
+    ensures within { first_plan_error two_racks (Waiting ∷ Off ∷ Waiting ∷ Idle ∷ []) None ((2 ∷ 2 ∷ []) ∷ []) ≡ Some (Twice 1 (host_id 2)) }
+    ensures off { first_plan_error two_racks (Waiting ∷ Off ∷ Waiting ∷ Idle ∷ []) None ((0 ∷ []) ∷ (1 ∷ []) ∷ []) ≡ Some (NotWaiting 2 (host_id 1)) }
+    ensures over { first_plan_error two_racks (Waiting ∷ Off ∷ Waiting ∷ Idle ∷ []) None ((2 ∷ 0 ∷ []) ∷ []) ≡ Some (Over 1 (group_id 1) 2 1) }
+    ensures size { first_plan_error two_racks (Waiting ∷ Off ∷ Waiting ∷ Idle ∷ []) (Some 1) ((2 ∷ 0 ∷ []) ∷ []) ≡ Some (Size 1 2 1) }
+    ensures empty { first_plan_error two_racks (Waiting ∷ Off ∷ Waiting ∷ Idle ∷ []) None ((0 ∷ []) ∷ [] ∷ (2 ∷ 2 ∷ []) ∷ []) ≡ Some (Empty 2) }
+    ensures nobody { first_plan_error two_racks (Idle ∷ Off ∷ Idle ∷ Idle ∷ []) (Some 1) [] ≡ None }
 {}

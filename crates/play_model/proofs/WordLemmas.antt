@@ -4,8 +4,8 @@ use Rattle.std.specs.Str.{IsUtf8, IsCharBoundary}
 use Rattle.std.proofs.lemmas.Bool.{cases_lt}
 use Rattle.std.proofs.lemmas.List.{length-append, length_push, get_or_append_left, get_or_push, take-append-le}
 use Rattle.std.proofs.lemmas.Str.{IsUtf8-append, IsUtf8-take, IsCharBoundary-end, IsCharBoundary-from_take}
-use Rattle.fleet_numbers.specs.Runs.{end_at, runs}
-use Rattle.fleet_numbers.proofs.RunLemmas.{added}
+use Rattle.fleet_index.specs.Runs.{end_at, runs}
+use Rattle.fleet_index.proofs.RunLemmas.{added}
 use Rattle.play_model.specs.Words.{AreWords}
 
 -- a place where a text may be cut stays one with more behind it

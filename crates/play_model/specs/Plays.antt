@@ -1,6 +1,6 @@
 -- What holds of every play.
 use Rattle.std.specs.Prelude.{◌≡◌, ℕ, ◌-◌, ◌<◌, ◌≤◌, IsFalse, List, [], length, drop, All}
-use Rattle.text_parts.specs.Words.{has_braces}
+use Rattle.text_syntax.specs.Words.{has_braces}
 use Rattle.play_model.specs.declared.size.Size.{Size}
 use Rattle.play_model.specs.declared.step.Step.{Step}
 

@@ -1,7 +1,7 @@
 -- Words one behind the other in one text.
 use Rattle.std.specs.Prelude.{ℕ, ◌<◌, List, length}
 use Rattle.std.specs.Str.{IsCharBoundary}
-use Rattle.fleet_numbers.specs.Runs.{AreEnds, end_at}
+use Rattle.fleet_index.specs.Runs.{AreEnds, end_at}
 
 -- each word begins where the one before it ends, the last ends with the text, and each is a text by itself
 pub record AreWords (bytes ends : List ℕ) : Type 0 where

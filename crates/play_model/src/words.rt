@@ -1,7 +1,7 @@
 //! The words of a command.
 ghost use Rattle.std.specs.Prelude.{◌≡◌, ◌==◌, ◌<◌, ◌++◌, ◌∷◌, [], length, IfOk, OnOk, OnErr};
-ghost use Rattle.fleet_numbers.specs.NumberLists.{list_at};
-ghost use Rattle.fleet_numbers.specs.Runs.{start_at};
+ghost use Rattle.fleet_index.specs.NumberLists.{list_at};
+ghost use Rattle.fleet_index.specs.Runs.{start_at};
 
 use std::alloc::{AllocError, Global};
 use std::marker::Model;
@@ -17,7 +17,7 @@ pub struct Words {
 impl Model for Words {
     ghost use Rattle.std.specs.Prelude.{ℕ, List};
     ghost use Rattle.std.specs.String.{string_bytes};
-    ghost use Rattle.fleet_numbers.specs.Runs.{runs};
+    ghost use Rattle.fleet_index.specs.Runs.{runs};
     ghost use Rattle.play_model.specs.Words.{AreWords};
 
     ghost Value = { List (List ℕ) };

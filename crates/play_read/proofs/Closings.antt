@@ -1,7 +1,7 @@
 -- Where the first `}}` stands.
 use Rattle.std.proofs.Common.{◌≡◌, ℕ, suc, ◌+◌, ◌<◌, Bool, true, false, cond, Option, Some, None, List, [], ◌∷◌, length, drop, get_or, option_map, refl, sym, ap, ◌∙◌, arith, drop-cons, length-drop}
-use Rattle.text_parts.specs.Words.{starts}
-use Rattle.play_rules.specs.Commands.{before_closing}
+use Rattle.text_syntax.specs.Words.{starts}
+use Rattle.playbook_schema.specs.Commands.{before_closing}
 
 -- a place that is found behind one byte, and behind so many
 abbrev one_later : Option ℕ → Option ℕ

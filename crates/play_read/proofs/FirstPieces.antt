@@ -4,9 +4,9 @@ use Rattle.std.specs.Str.{IsCharBoundary, IsUtf8}
 use Rattle.std.proofs.lemmas.Bool.{cases_lt}
 use Rattle.std.proofs.lemmas.List.{drop_all, drop-drop}
 use Rattle.std.proofs.lemmas.Str.{IsCharBoundary-end, IsCharBoundary-before_ascii, IsCharBoundary-after_ascii}
-use Rattle.text_parts.specs.Words.{is_blank}
-use Rattle.text_parts.proofs.Boundaries.{blank_ascii}
-use Rattle.play_rules.specs.Commands.{Word, hole_behind, pieces}
+use Rattle.text_syntax.specs.Words.{is_blank}
+use Rattle.text_syntax.proofs.Boundaries.{blank_ascii}
+use Rattle.playbook_schema.specs.Commands.{Word, hole_behind, pieces}
 use Rattle.play_read.specs.Pieces.{piece_length}
 
 -- what is left where a piece ends: nothing, or a blank and what is behind it

@@ -9,14 +9,14 @@ use Rattle.cond.specs.declared.condition.Cond.{Cond}
 use Rattle.cond.specs.declared.conjunction.Conjunction.{Conjunction}
 use Rattle.group_tree.specs.Names.{Name}
 use Rattle.serde_json.specs.Data.{Data, null, boolean, number, string, array, object}
-use Rattle.text_parts.specs.Shapes.{is_null, listed}
-use Rattle.play_rules.specs.Breaches.{Spot, Broken, BadShape}
-use Rattle.play_rules.specs.Entries.{bad_entries}
-use Rattle.play_rules.specs.Paths.{Path, under}
-use Rattle.play_rules.specs.Conditions.{bad_clauses, clause_of, is_clause, clauses_listed, clauses_of, asked_of, checks_of}
-use Rattle.play_rules.specs.Checks.{AllKept}
-use Rattle.play_rules.proofs.EntryLaws.{entries_pass}
-use Rattle.play_rules.proofs.CheckLaws.{kept_parts, kept_rules}
+use Rattle.text_syntax.specs.Shapes.{is_null, listed}
+use Rattle.playbook_schema.specs.Breaches.{Spot, Broken, BadShape}
+use Rattle.playbook_schema.specs.Entries.{bad_entries}
+use Rattle.playbook_schema.specs.Paths.{Path, under}
+use Rattle.playbook_schema.specs.Conditions.{bad_clauses, clause_of, is_clause, clauses_listed, clauses_of, asked_of, checks_of}
+use Rattle.playbook_schema.specs.Checks.{AllKept}
+use Rattle.playbook_schema.proofs.EntryLaws.{entries_pass}
+use Rattle.playbook_schema.proofs.CheckLaws.{kept_parts, kept_rules}
 use Rattle.play_read.specs.Says.{Gathers, Says}
 
 -- a part for each value, where each is one

@@ -6,12 +6,12 @@ use Rattle.serde_json.specs.Find.{get}
 use Rattle.serde_json.specs.View.{view}
 use Rattle.serde_json.specs.declared.value.Value.{Value}
 use Rattle.group_tree.specs.Names.{Name}
-use Rattle.play_rules.specs.Breaches.{Check}
-use Rattle.play_rules.specs.Keys.{handlers_key}
-use Rattle.play_rules.specs.Names.{once}
-use Rattle.play_rules.specs.Paths.{Path}
-use Rattle.play_rules.specs.Plays.{are_readable, checks_of_handlers, checks_of_steps, checks_of_tasks, handler_names, handlers_in, tasks_in}
-use Rattle.play_rules.specs.Steps.{name_in}
+use Rattle.playbook_schema.specs.Breaches.{Check}
+use Rattle.playbook_schema.specs.Keys.{handlers_key}
+use Rattle.playbook_schema.specs.Names.{once}
+use Rattle.playbook_schema.specs.Paths.{Path}
+use Rattle.playbook_schema.specs.Plays.{are_readable, checks_of_handlers, checks_of_steps, checks_of_tasks, handler_names, handlers_in, tasks_in}
+use Rattle.playbook_schema.specs.Steps.{name_in}
 use Rattle.play_read.proofs.Lists.{as_many}
 
 pub names_are : (play : Data) (handlers : List Value) (names : List Name) → map view handlers ≡ handlers_in play → names ≡ once [] (filter_map name_in (map view handlers)) → names ≡ handler_names play

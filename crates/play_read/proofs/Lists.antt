@@ -3,7 +3,7 @@ use Rattle.std.proofs.Common.{◌≡◌, ◌≤◌, Option, Some, None, List, []
 use Rattle.std.specs.List.{AllZip, filter_map}
 use Rattle.std.specs.List.{cons_option}
 use Rattle.std.proofs.lemmas.List.{map-append, length-map}
-pub use Rattle.play_rules.proofs.Lists.{left_at, taken_at}
+pub use Rattle.playbook_schema.proofs.Lists.{left_at, taken_at}
 
 pub all_zip_append : {A B : Type 0} (R : A → B → Type 0) (xs us : List A) (ys vs : List B) → AllZip R xs ys → AllZip R us vs → AllZip R (xs ++ us) (ys ++ vs)
 all_zip_append R [] us [] vs each more = more

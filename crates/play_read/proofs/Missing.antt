@@ -9,12 +9,12 @@ use Rattle.serde_json.specs.Find.{as_str}
 use Rattle.serde_json.specs.View.{view}
 use Rattle.serde_json.specs.declared.value.Value.{Value}
 use Rattle.group_tree.specs.Names.{Name, is_among}
-use Rattle.play_rules.specs.Breaches.{Broken, Check, NoSuchHandler, unless}
-use Rattle.play_rules.specs.Known.{texts}
-use Rattle.play_rules.specs.Names.{once, once_more}
-use Rattle.play_rules.specs.Steps.{is_missing}
-use Rattle.play_rules.proofs.Lists.{left_at}
-use Rattle.play_rules.proofs.NameLaws.{once-append, once_alone}
+use Rattle.playbook_schema.specs.Breaches.{Broken, Check, NoSuchHandler, unless}
+use Rattle.playbook_schema.specs.Known.{texts}
+use Rattle.playbook_schema.specs.Names.{once, once_more}
+use Rattle.playbook_schema.specs.Steps.{is_missing}
+use Rattle.playbook_schema.proofs.Lists.{left_at}
+use Rattle.playbook_schema.proofs.NameLaws.{once-append, once_alone}
 
 abbrev pub missing_behind : List Name → List Name → List Name → List Check
 missing_behind handlers before names = map Broken (map NoSuchHandler (once before (filter (is_missing handlers) names)))

@@ -3,16 +3,16 @@ use Rattle.std.proofs.Common.{◌≡◌, ◌++◌, ◌≤◌, true, nat_lt, nat_
 use Rattle.std.proofs.lemmas.Bool.{and_parts, leb-true, ltb-true}
 use Rattle.serde_json.specs.Data.{Data}
 use Rattle.serde_json.specs.Find.{get}
-use Rattle.text_parts.specs.Shapes.{listed}
-use Rattle.text_parts.proofs.BreachLaws.{kept, no_first}
-use Rattle.play_rules.specs.Breaches.{BadSerial, Broken, unless}
-use Rattle.play_rules.specs.Checks.{AllKept}
-use Rattle.play_rules.specs.Keys.{hosts_key, serial_key, max_fail_key, on_blocked_key, play_keys}
-use Rattle.play_rules.specs.Paths.{under}
-use Rattle.play_rules.specs.Plays.{bad_handlers, bad_tasks, checks_of_front, checks_of_lists, checks_of_settings, tasks_in}
-use Rattle.play_rules.specs.Settings.{size_of, are_few, bad_hosts, bad_serial, bad_percent, bad_mode, sizes_in}
-use Rattle.play_rules.specs.Steps.{unknown_key}
-use Rattle.play_rules.proofs.CheckLaws.{kept_parts, kept_rules}
+use Rattle.text_syntax.specs.Shapes.{listed}
+use Rattle.text_syntax.proofs.BreachLaws.{kept, no_first}
+use Rattle.playbook_schema.specs.Breaches.{BadSerial, Broken, unless}
+use Rattle.playbook_schema.specs.Checks.{AllKept}
+use Rattle.playbook_schema.specs.Keys.{hosts_key, serial_key, max_fail_key, on_blocked_key, play_keys}
+use Rattle.playbook_schema.specs.Paths.{under}
+use Rattle.playbook_schema.specs.Plays.{bad_handlers, bad_tasks, checks_of_front, checks_of_lists, checks_of_settings, tasks_in}
+use Rattle.playbook_schema.specs.Settings.{size_of, are_few, bad_hosts, bad_serial, bad_percent, bad_mode, sizes_in}
+use Rattle.playbook_schema.specs.Steps.{unknown_key}
+use Rattle.playbook_schema.proofs.CheckLaws.{kept_parts, kept_rules}
 use Rattle.play_read.proofs.Lists.{filter_map_short}
 
 few_given : (serial : Option Data) → bad_serial serial ≡ [] → length (sizes_in serial) ≤ 64

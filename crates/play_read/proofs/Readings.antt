@@ -6,10 +6,10 @@ use Rattle.cond.specs.Conditions.{IsAdded, IsMeant}
 use Rattle.cond.specs.Meaning.{Environment, Verdict}
 use Rattle.cond.specs.declared.conjunction.Conjunction.{Conjunction}
 use Rattle.serde_json.specs.Data.{Data}
-use Rattle.play_rules.specs.Breaches.{Check, where_given}
-use Rattle.play_rules.specs.Conditions as rules
-use Rattle.play_rules.specs.Conditions.{clause_of}
-use Rattle.play_rules.specs.Checks.{IsCondition}
+use Rattle.playbook_schema.specs.Breaches.{Check, where_given}
+use Rattle.playbook_schema.specs.Conditions as rules
+use Rattle.playbook_schema.specs.Conditions.{clause_of}
+use Rattle.playbook_schema.specs.Checks.{IsCondition}
 use Rattle.play_read.specs.Says.{Meaning, Means, MeanEach, said_on, Gathers, IsMore}
 
 -- a text that was joined is a condition

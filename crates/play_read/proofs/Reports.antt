@@ -5,20 +5,20 @@ use Rattle.std.proofs.lemmas.Bool.{and_from, and_parts, both_ways, eq-eqb, eqb-t
 use Rattle.std.proofs.lemmas.List.{length-map}
 use Rattle.std.proofs.lemmas.Slice.Zip.{AllZip-long}
 use Rattle.std.specs.Prelude.{nat_le, nat_lt}
-use Rattle.text_parts.specs.Telling.{nothing_told, with_breaches}
-use Rattle.text_parts.specs.Texts.{BreaksFirst}
-use Rattle.text_parts.proofs.Tellings.{more_of, none_of, told_of}
-use Rattle.play_rules.specs.Breaches.{BadShape, Breach, Broken, Check, ManyPlays, NotJson, unless}
-use Rattle.play_rules.specs.Checks.{AllKept, Named, rule}
-use Rattle.play_rules.specs.Faults.{named_of}
-use Rattle.play_rules.specs.Plays.{checks, play_of, plays_in, plays_of}
-use Rattle.play_rules.specs.Told.{Tells}
-use Rattle.play_rules.specs.ToldFaults.{AreTold, is_empty, is_silent}
+use Rattle.text_syntax.specs.Telling.{nothing_told, with_breaches}
+use Rattle.text_syntax.specs.Texts.{BreaksFirst}
+use Rattle.text_syntax.proofs.Tellings.{more_of, none_of, told_of}
+use Rattle.playbook_schema.specs.Breaches.{BadShape, Breach, Broken, Check, ManyPlays, NotJson, unless}
+use Rattle.playbook_schema.specs.Checks.{AllKept, Named, rule}
+use Rattle.playbook_schema.specs.Faults.{named_of}
+use Rattle.playbook_schema.specs.Plays.{checks, play_of, plays_in, plays_of}
+use Rattle.playbook_schema.specs.Told.{Tells}
+use Rattle.playbook_schema.specs.ToldFaults.{AreTold, is_empty, is_silent}
 use Rattle.play_model.specs.declared.play.Play.{Play}
-use Rattle.play_rules.specs.declared.fault.PlayFault.{PlayFault}
-use Rattle.play_rules.specs.declared.told.Told.{Told}
-use Rattle.play_rules.proofs.AddLaws.{T}
-use Rattle.play_rules.proofs.CheckLaws.{first_told}
+use Rattle.playbook_schema.specs.declared.fault.PlayFault.{PlayFault}
+use Rattle.playbook_schema.specs.declared.told.Told.{Told}
+use Rattle.playbook_schema.proofs.AddLaws.{T}
+use Rattle.playbook_schema.proofs.CheckLaws.{first_told}
 use Rattle.play_read.specs.Reads.{AreAllOf, AreFaultsOf, IsFirstOf, IsPlay, IsReadAs, IsTrueOf}
 
 -- these were collected

@@ -9,23 +9,23 @@ use Rattle.std.proofs.lemmas.List.Elements.{All-nil, All-cons, All-weaker}
 use Rattle.std.proofs.lemmas.List.Quantifiers.{position-Some}
 use Rattle.group_tree.specs.Names.{Name, is_among, same_name}
 use Rattle.serde_json.specs.Data.{Data}
-use Rattle.text_parts.specs.Shapes.{is_object}
-use Rattle.text_parts.specs.Words.{has_braces}
-use Rattle.text_parts.proofs.BreachLaws.{kept}
+use Rattle.text_syntax.specs.Shapes.{is_object}
+use Rattle.text_syntax.specs.Words.{has_braces}
+use Rattle.text_syntax.proofs.BreachLaws.{kept}
 use Rattle.play_model.specs.Plays.{NotifiesNobody, AreNumbersBelow, HasPlainWords}
 use Rattle.play_model.specs.declared.step.Step.{Step}
-use Rattle.play_rules.specs.Breaches.{BadBraces, BadShape, Broken, Check, Spot, all_in}
-use Rattle.play_rules.specs.CommandPlaces.{bad_command, bad_path, bad_words}
-use Rattle.play_rules.specs.Commands.{Word, words_in}
-use Rattle.play_rules.specs.KeyLists.{keys_in}
-use Rattle.play_rules.specs.Names.{once, once_more, place_of}
-use Rattle.play_rules.specs.Paths.{Path, handler_path, task_path}
-use Rattle.play_rules.specs.Plays.{checks_of_handlers, checks_of_tasks, handler_names, handlers_in, spot_at}
-use Rattle.play_rules.specs.Steps.{WrittenStep, bad_ignore, bad_name, bad_register, checks_of_handler, checks_of_head, checks_of_keys, checks_of_step, checks_of_task, condition_checks, name_in, notified_in, step_of, handler_of, unknown_key}
-use Rattle.play_rules.specs.Checks.{AllKept}
-use Rattle.play_rules.specs.declared.place.StepList.{StepList}
-use Rattle.play_rules.specs.declared.place.StepList.TheVariants.{Tasks, Handlers}
-use Rattle.play_rules.proofs.CheckLaws.{kept_from, kept_parts, kept_rules}
+use Rattle.playbook_schema.specs.Breaches.{BadBraces, BadShape, Broken, Check, Spot, all_in}
+use Rattle.playbook_schema.specs.CommandPlaces.{bad_command, bad_path, bad_words}
+use Rattle.playbook_schema.specs.Commands.{Word, words_in}
+use Rattle.playbook_schema.specs.KeyLists.{keys_in}
+use Rattle.playbook_schema.specs.Names.{once, once_more, place_of}
+use Rattle.playbook_schema.specs.Paths.{Path, handler_path, task_path}
+use Rattle.playbook_schema.specs.Plays.{checks_of_handlers, checks_of_tasks, handler_names, handlers_in, spot_at}
+use Rattle.playbook_schema.specs.Steps.{WrittenStep, bad_ignore, bad_name, bad_register, checks_of_handler, checks_of_head, checks_of_keys, checks_of_step, checks_of_task, condition_checks, name_in, notified_in, step_of, handler_of, unknown_key}
+use Rattle.playbook_schema.specs.Checks.{AllKept}
+use Rattle.playbook_schema.specs.declared.place.StepList.{StepList}
+use Rattle.playbook_schema.specs.declared.place.StepList.TheVariants.{Tasks, Handlers}
+use Rattle.playbook_schema.proofs.CheckLaws.{kept_from, kept_parts, kept_rules}
 use Rattle.play_read.specs.Readings.{IsStep}
 use Rattle.play_read.specs.Reads.{AreSteps}
 use Rattle.play_read.proofs.Lists.{filter_map_short}

@@ -8,16 +8,16 @@ use Rattle.serde_json.specs.Data.{Data}
 use Rattle.serde_json.specs.Find.{get}
 use Rattle.play_model.specs.Plays.{NotifiesNobody, AreNumbersBelow, HasPlainWords}
 use Rattle.play_model.specs.declared.step.Step.{Step}
-use Rattle.play_rules.specs.Breaches.{Check}
-use Rattle.play_rules.specs.Checks.{AllKept}
-use Rattle.play_rules.specs.Keys.{handlers_key}
-use Rattle.play_rules.specs.Paths.{Path}
-use Rattle.play_rules.specs.Plays.{are_readable, checks_of_front, checks_of_handlers, checks_of_steps, checks_of_tasks, handler_names, has_few_steps, handlers_in, tasks_in}
-use Rattle.play_rules.specs.Steps.{handler_of, step_of}
-use Rattle.play_rules.specs.Told.{Adds}
-use Rattle.play_rules.specs.ToldFaults.{is_silent}
-use Rattle.play_rules.proofs.AddLaws.{T, kept_in_silence, silent_before}
-use Rattle.play_rules.proofs.CheckLaws.{kept_parts}
+use Rattle.playbook_schema.specs.Breaches.{Check}
+use Rattle.playbook_schema.specs.Checks.{AllKept}
+use Rattle.playbook_schema.specs.Keys.{handlers_key}
+use Rattle.playbook_schema.specs.Paths.{Path}
+use Rattle.playbook_schema.specs.Plays.{are_readable, checks_of_front, checks_of_handlers, checks_of_steps, checks_of_tasks, handler_names, has_few_steps, handlers_in, tasks_in}
+use Rattle.playbook_schema.specs.Steps.{handler_of, step_of}
+use Rattle.playbook_schema.specs.Told.{Adds}
+use Rattle.playbook_schema.specs.ToldFaults.{is_silent}
+use Rattle.playbook_schema.proofs.AddLaws.{T, kept_in_silence, silent_before}
+use Rattle.playbook_schema.proofs.CheckLaws.{kept_parts}
 use Rattle.play_read.specs.PlayParts.{AreStepsOf, IsSettings}
 use Rattle.play_read.specs.Readings.{IsStep}
 use Rattle.play_read.specs.Reads.{AreSteps}

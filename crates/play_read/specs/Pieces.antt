@@ -1,8 +1,8 @@
 -- The first piece of a text.
 use Rattle.std.specs.Prelude.{◌≡◌, ℕ, suc, zero, ◌+◌, ◌<◌, Option, Some, None, List, [], ◌∷◌, length, drop, if◌then◌else◌}
 use Rattle.std.specs.Borrow.{Bor}
-use Rattle.text_parts.specs.Words.{is_blank}
-use Rattle.play_rules.specs.Commands.{Word, hole_behind, before_closing, pieces}
+use Rattle.text_syntax.specs.Words.{is_blank}
+use Rattle.playbook_schema.specs.Commands.{Word, hole_behind, before_closing, pieces}
 
 -- how many bytes it has, where so many at the start belong to a hole
 abbrev pub piece_length : ℕ → List ℕ → ℕ

@@ -2,10 +2,10 @@
 use Rattle.std.specs.Prelude.{◌≡◌, map, string_bytes}
 use Rattle.serde_json.specs.Data.{Data}
 use Rattle.serde_json.specs.Find.{get}
-use Rattle.play_rules.specs.Keys.{hosts_key, serial_key, max_fail_key, on_blocked_key}
-use Rattle.play_rules.specs.Plays.{handler_names, handlers_in, tasks_in}
-use Rattle.play_rules.specs.Settings.{mode_in, pattern_in, percent_in, sizes_in}
-use Rattle.play_rules.specs.Steps.{handler_of, step_of}
+use Rattle.playbook_schema.specs.Keys.{hosts_key, serial_key, max_fail_key, on_blocked_key}
+use Rattle.playbook_schema.specs.Plays.{handler_names, handlers_in, tasks_in}
+use Rattle.playbook_schema.specs.Settings.{mode_in, pattern_in, percent_in, sizes_in}
+use Rattle.playbook_schema.specs.Steps.{handler_of, step_of}
 use Rattle.play_read.specs.Reads.{AreSteps}
 use Rattle.play_read.specs.declared.play.Settings.{Settings}
 use Rattle.play_read.specs.declared.play.Steps.{Steps}

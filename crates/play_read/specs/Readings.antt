@@ -1,7 +1,7 @@
 -- A step as the code keeps it.
 use Rattle.std.specs.Prelude.{◌≡◌, option_map, string_bytes}
 use Rattle.play_model.specs.declared.step.Step.{Step}
-use Rattle.play_rules.specs.Steps.{WrittenStep}
+use Rattle.playbook_schema.specs.Steps.{WrittenStep}
 use Rattle.play_read.specs.Says.{Says}
 
 -- the step says what is written: the same texts and numbers, and conditions that mean the clauses

@@ -3,18 +3,18 @@ use Rattle.std.specs.Prelude.{◌≡◌, ℕ, ◌⊎◌, ◌++◌, false, Some, 
 use Rattle.std.specs.List.{AllZip}
 use Rattle.serde_json.specs.Data.{Data}
 use Rattle.serde_json.specs.Read.{read}
-use Rattle.text_parts.specs.Texts.{BreaksFirst, IsNoJson}
+use Rattle.text_syntax.specs.Texts.{BreaksFirst, IsNoJson}
 use Rattle.play_model.specs.declared.play.Play.{Play}
 use Rattle.play_model.specs.declared.step.Step.{Step}
-use Rattle.play_rules.specs.Breaches.{Check, NotJson}
-use Rattle.play_rules.specs.Plays.{WrittenPlay, checks, plays_of}
-use Rattle.play_rules.specs.Steps.{WrittenStep}
-use Rattle.play_rules.specs.Checks.{Named, rule, AllKept, IsFirst}
-use Rattle.play_rules.specs.Faults.{named_of}
-use Rattle.play_rules.specs.Told.{Tells}
-use Rattle.play_rules.specs.ToldFaults.{AreTold, is_empty}
-use Rattle.play_rules.specs.declared.fault.PlayFault.{PlayFault}
-use Rattle.play_rules.specs.declared.told.Told.{Told}
+use Rattle.playbook_schema.specs.Breaches.{Check, NotJson}
+use Rattle.playbook_schema.specs.Plays.{WrittenPlay, checks, plays_of}
+use Rattle.playbook_schema.specs.Steps.{WrittenStep}
+use Rattle.playbook_schema.specs.Checks.{Named, rule, AllKept, IsFirst}
+use Rattle.playbook_schema.specs.Faults.{named_of}
+use Rattle.playbook_schema.specs.Told.{Tells}
+use Rattle.playbook_schema.specs.ToldFaults.{AreTold, is_empty}
+use Rattle.playbook_schema.specs.declared.fault.PlayFault.{PlayFault}
+use Rattle.playbook_schema.specs.declared.told.Told.{Told}
 use Rattle.play_read.specs.Readings.{IsStep}
 
 -- a step for each that is written, in the order in which they are written

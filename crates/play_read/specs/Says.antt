@@ -8,10 +8,10 @@ use Rattle.cond.specs.Conjunctions.{verdicts_on}
 use Rattle.cond.specs.declared.condition.Cond.{Cond}
 use Rattle.cond.specs.declared.conjunction.Conjunction.{Conjunction}
 use Rattle.group_tree.specs.Names.{Name}
-use Rattle.play_rules.specs.Breaches.{Spot}
-use Rattle.play_rules.specs.Checks.{AllKept}
-use Rattle.play_rules.specs.Conditions as rules
-use Rattle.play_rules.specs.Conditions.{checks_at, clauses_at}
+use Rattle.playbook_schema.specs.Breaches.{Spot}
+use Rattle.playbook_schema.specs.Checks.{AllKept}
+use Rattle.playbook_schema.specs.Conditions as rules
+use Rattle.playbook_schema.specs.Conditions.{checks_at, clauses_at}
 use Rattle.play_read.specs.declared.clause.Clause.{Clause}
 use Rattle.play_read.specs.declared.clause.Clause.TheVariants as clause
 

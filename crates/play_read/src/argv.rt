@@ -2,11 +2,11 @@
 ghost use Rattle.std.specs.Prelude.{◌≡◌, ◌++◌, IfOk, OnOk, map, option_to_list};
 ghost use Rattle.std.specs.List.{filter_map, list_all};
 ghost use Rattle.serde_json.specs.View.{view};
-ghost use Rattle.play_rules.specs.Commands as spec;
+ghost use Rattle.playbook_schema.specs.Commands as spec;
 
 use itoa::Buffer;
 use play_model::Words;
-use play_rules::is_word;
+use playbook_schema::is_word;
 use serde_json::Value;
 use std::alloc::{AllocError, Global};
 

@@ -1,11 +1,11 @@
 //! The parts of a condition, as a document lists them.
 ghost use Rattle.std.specs.Prelude.{◌≡◌, map, option_map};
 ghost use Rattle.serde_json.specs.View.{view};
-ghost use Rattle.play_rules.specs.Conditions as spec;
+ghost use Rattle.playbook_schema.specs.Conditions as spec;
 ghost use Rattle.play_read.specs.Says.{said};
 
 use serde_json::Value;
-use text_parts::listed;
+use text_syntax::listed;
 
 /// A truth value, or a text that has to be a condition.
 #[derive(Clone, Copy, Debug)]

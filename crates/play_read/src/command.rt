@@ -1,26 +1,26 @@
 //! The key `command` of a step, or its long form.
-#![tactic(auto, using(play_rules::proofs::AddLaws::findings_in_turn))]
+#![tactic(auto, using(playbook_schema::proofs::AddLaws::findings_in_turn))]
 
 ghost use Rattle.std.specs.Prelude.{◌≡◌, ◌==◌, [], IfOk, OnOk, length, map, option_map, option_and_then, unwrap_or};
 ghost use Rattle.std.specs.List.{list_any};
 ghost use Rattle.serde_json.specs.Find.{get, as_str};
 ghost use Rattle.serde_json.specs.View.{view};
-ghost use Rattle.text_parts.specs.Shapes.{entries_in, elements_of};
-ghost use Rattle.text_parts.specs.Words.{has_braces};
-ghost use Rattle.play_rules.specs.Breaches.{Broken};
-ghost use Rattle.play_rules.specs.CommandPlaces.{bad_command};
-ghost use Rattle.play_rules.specs.Commands as spec;
-ghost use Rattle.play_rules.specs.Keys.{argv_key, cmd_key};
-ghost use Rattle.play_rules.specs.Places.{path_at, spot_of};
-ghost use Rattle.play_rules.specs.Told.{Adds};
+ghost use Rattle.text_syntax.specs.Shapes.{entries_in, elements_of};
+ghost use Rattle.text_syntax.specs.Words.{has_braces};
+ghost use Rattle.playbook_schema.specs.Breaches.{Broken};
+ghost use Rattle.playbook_schema.specs.CommandPlaces.{bad_command};
+ghost use Rattle.playbook_schema.specs.Commands as spec;
+ghost use Rattle.playbook_schema.specs.Keys.{argv_key, cmd_key};
+ghost use Rattle.playbook_schema.specs.Places.{path_at, spot_of};
+ghost use Rattle.playbook_schema.specs.Told.{Adds};
 
 use crate::argv::words_listed;
 use crate::free::free_words;
 use play_model::Words;
-use play_rules::{FaultCollector, Flaw, Place, count_entries, place_of_bad_command};
+use playbook_schema::{FaultCollector, Flaw, Place, count_entries, place_of_bad_command};
 use serde_json::Value;
 use std::alloc::{AllocError, Global};
-use text_parts::{check_word, elements_of};
+use text_syntax::{check_word, elements_of};
 
 /// The words of a step's command: each opening brace in them has to begin a hole.
 pub(crate) fn read_command(

@@ -1,5 +1,5 @@
 //! The conditions of a step.
-#![tactic(auto, using(play_rules::proofs::AddLaws::findings_in_turn))]
+#![tactic(auto, using(playbook_schema::proofs::AddLaws::findings_in_turn))]
 
 ghost use Rattle.std.specs.Prelude.{◌≡◌, ◌∷◌, [], IfOk, MatchOption, OnOk, is_some, map, true};
 ghost use Rattle.std.specs.List.{filter_map, flat_map};
@@ -7,18 +7,18 @@ ghost use Rattle.cond.specs.Conditions.{Breaks, IsAdded};
 ghost use Rattle.cond.specs.Conjunctions.{verdicts_on};
 ghost use Rattle.cond.specs.Faults.{number_of};
 ghost use Rattle.serde_json.specs.View.{view};
-ghost use Rattle.play_rules.specs.Breaches.{Asked, Broken, where_given};
-ghost use Rattle.play_rules.specs.Checks.{AllKept, IsCondition};
-ghost use Rattle.play_rules.specs.Conditions as spec;
-ghost use Rattle.play_rules.specs.Faults.{key_name};
-ghost use Rattle.play_rules.specs.Paths.{under};
-ghost use Rattle.play_rules.specs.Places.{path_at, spot_of};
-ghost use Rattle.play_rules.specs.Told.{Adds};
+ghost use Rattle.playbook_schema.specs.Breaches.{Asked, Broken, where_given};
+ghost use Rattle.playbook_schema.specs.Checks.{AllKept, IsCondition};
+ghost use Rattle.playbook_schema.specs.Conditions as spec;
+ghost use Rattle.playbook_schema.specs.Faults.{key_name};
+ghost use Rattle.playbook_schema.specs.Paths.{under};
+ghost use Rattle.playbook_schema.specs.Places.{path_at, spot_of};
+ghost use Rattle.playbook_schema.specs.Told.{Adds};
 ghost use Rattle.play_read.specs.Says.{Gathers, IsMore, Says, SaysUnder};
 
 use crate::clause::{Clause, clause_of, clauses_listed};
 use cond::{Cond, CondFault, Conjunction};
-use play_rules::{ConditionKey, FaultCollector, Place, Test, check_entries};
+use playbook_schema::{ConditionKey, FaultCollector, Place, Test, check_entries};
 use serde_json::Value;
 use std::alloc::{AllocError, Global};
 

@@ -1,21 +1,21 @@
 //! From the value of a text to its plays.
-#![tactic(auto, using(play_rules::proofs::AddLaws::findings_in_turn))]
+#![tactic(auto, using(playbook_schema::proofs::AddLaws::findings_in_turn))]
 
 ghost use Rattle.std.specs.Prelude.{◌≡◌, ◌+◌, ◌<◌, [], IfOk, OnOk, map, length, nat_le, nat_lt, true};
 ghost use Rattle.std.specs.List.{AllZip};
 ghost use Rattle.serde_json.specs.View.{view};
-ghost use Rattle.play_rules.specs.Breaches.{Broken};
-ghost use Rattle.play_rules.specs.Plays as spec;
-ghost use Rattle.play_rules.specs.Told.{Adds};
-ghost use Rattle.play_rules.specs.ToldFaults.{is_silent};
+ghost use Rattle.playbook_schema.specs.Breaches.{Broken};
+ghost use Rattle.playbook_schema.specs.Plays as spec;
+ghost use Rattle.playbook_schema.specs.Told.{Adds};
+ghost use Rattle.playbook_schema.specs.ToldFaults.{is_silent};
 ghost use Rattle.play_read.specs.Reads.{IsPlay};
 
 use crate::play::read_one;
 use play_model::Play;
-use play_rules::{Below, FaultCollector, Flaw, Place, PlayPlace};
+use playbook_schema::{Below, FaultCollector, Flaw, Place, PlayPlace};
 use serde_json::Value;
 use std::alloc::AllocError;
-use text_parts::elements_of;
+use text_syntax::elements_of;
 
 fn listed(document: &Value) -> &[Value]
     ensures { map view result.now ≡ spec.plays_in (view document.now) }

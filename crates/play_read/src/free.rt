@@ -1,7 +1,7 @@
 //! A command that is written as one text.
 ghost use Rattle.std.specs.Prelude.{◌≡◌, IfOk};
 ghost use Rattle.std.specs.List.{list_any};
-ghost use Rattle.play_rules.specs.Commands as spec;
+ghost use Rattle.playbook_schema.specs.Commands as spec;
 
 use crate::split::split_words;
 use play_model::Words;

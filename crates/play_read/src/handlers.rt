@@ -1,24 +1,26 @@
 //! The handlers of a play.
-#![tactic(auto, using(play_rules::proofs::AddLaws::findings_in_turn))]
+#![tactic(auto, using(playbook_schema::proofs::AddLaws::findings_in_turn))]
 
 ghost use Rattle.std.specs.Prelude.{◌≡◌, ◌∷◌, ◌+◌, ◌++◌, ◌≤◌, [], IfOk, OnOk, length, map};
 ghost use Rattle.std.specs.List.{filter_map};
 ghost use Rattle.serde_json.specs.View.{view};
-ghost use Rattle.play_rules.specs.Breaches.{Broken};
-ghost use Rattle.play_rules.specs.Checks.{AllKept};
-ghost use Rattle.play_rules.specs.Known.{known};
-ghost use Rattle.play_rules.specs.Names.{once, once_more};
-ghost use Rattle.play_rules.specs.Places.{path_at, play_path, step_path, step_spot};
-ghost use Rattle.play_rules.specs.Plays.{checks_of_handlers};
-ghost use Rattle.play_rules.specs.Steps as spec;
-ghost use Rattle.play_rules.specs.Told.{Adds};
-ghost use Rattle.play_rules.specs.declared.place.StepList.TheVariants as list;
+ghost use Rattle.playbook_schema.specs.Breaches.{Broken};
+ghost use Rattle.playbook_schema.specs.Checks.{AllKept};
+ghost use Rattle.playbook_schema.specs.Known.{known};
+ghost use Rattle.playbook_schema.specs.Names.{once, once_more};
+ghost use Rattle.playbook_schema.specs.Places.{path_at, play_path, step_path, step_spot};
+ghost use Rattle.playbook_schema.specs.Plays.{checks_of_handlers};
+ghost use Rattle.playbook_schema.specs.Steps as spec;
+ghost use Rattle.playbook_schema.specs.Told.{Adds};
+ghost use Rattle.playbook_schema.specs.declared.place.StepList.TheVariants as list;
 ghost use Rattle.play_read.specs.Readings.{IsStep};
 ghost use Rattle.play_read.specs.Reads.{AreSteps};
 
 use crate::step::{blank_step, read_step};
 use play_model::Step;
-use play_rules::{FaultCollector, Flaw, NameList, Place, PlayPlace, StepList, StepPlace, name_in};
+use playbook_schema::{
+    FaultCollector, Flaw, NameList, Place, PlayPlace, StepList, StepPlace, name_in,
+};
 use serde_json::Value;
 use std::alloc::AllocError;
 

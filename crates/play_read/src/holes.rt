@@ -1,9 +1,9 @@
 //! Holes in a text: `{{`, and what follows up to the next `}}`.
 ghost use Rattle.std.specs.Prelude.{◌≡◌, ◌+◌, ◌-◌, ◌<◌, ◌≤◌, length, option_map, unwrap_or, IfSome};
-ghost use Rattle.play_rules.specs.Commands as spec;
+ghost use Rattle.playbook_schema.specs.Commands as spec;
 ghost use Rattle.play_read.specs.Pieces.{IsOpenBelow};
 
-use text_parts::starts_with_pair;
+use text_syntax::starts_with_pair;
 
 /// How many bytes more belong to a hole that the bytes begin with; 0 where they begin with none. In fewer bytes than `tail`
 /// at their end no hole is closed.

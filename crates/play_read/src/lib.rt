@@ -20,5 +20,5 @@ mod steps;
 mod tasks;
 
 pub use play_model::{Play, Step};
-pub use play_rules::PlayFault;
+pub use playbook_schema::PlayFault;
 pub use read::{plays_or_faults, read_play, read_plays};

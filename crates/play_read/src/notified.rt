@@ -1,18 +1,18 @@
 //! The handlers that a task notifies.
-#![tactic(auto, using(play_rules::proofs::AddLaws::findings_in_turn))]
+#![tactic(auto, using(playbook_schema::proofs::AddLaws::findings_in_turn))]
 
 ghost use Rattle.std.specs.Prelude.{◌≡◌, ◌∷◌, ◌++◌, [], IfOk, OnOk, filter, if◌then◌else◌, map};
 ghost use Rattle.std.specs.List.{filter_map};
 ghost use Rattle.serde_json.specs.Find.{as_str};
 ghost use Rattle.serde_json.specs.View.{view};
-ghost use Rattle.play_rules.specs.Breaches.{Broken, NoSuchHandler};
-ghost use Rattle.play_rules.specs.Known.{known, texts};
-ghost use Rattle.play_rules.specs.Names.{once, place_of};
-ghost use Rattle.play_rules.specs.Places.{path_at};
-ghost use Rattle.play_rules.specs.Steps as spec;
-ghost use Rattle.play_rules.specs.Told.{Adds};
+ghost use Rattle.playbook_schema.specs.Breaches.{Broken, NoSuchHandler};
+ghost use Rattle.playbook_schema.specs.Known.{known, texts};
+ghost use Rattle.playbook_schema.specs.Names.{once, place_of};
+ghost use Rattle.playbook_schema.specs.Places.{path_at};
+ghost use Rattle.playbook_schema.specs.Steps as spec;
+ghost use Rattle.playbook_schema.specs.Told.{Adds};
 
-use play_rules::{FaultCollector, Flaw, NameList, Place, read_notify};
+use playbook_schema::{FaultCollector, Flaw, NameList, Place, read_notify};
 use serde_json::Value;
 use std::alloc::{AllocError, Global};
 

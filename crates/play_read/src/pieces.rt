@@ -1,10 +1,10 @@
 //! Pieces of a text between single blanks.
 ghost use Rattle.std.specs.Prelude.{◌≡◌, ◌+◌, ◌<◌, ◌≤◌, [], ◌∷◌, length, take, drop, IfSome};
-ghost use Rattle.play_rules.specs.Commands as spec;
+ghost use Rattle.playbook_schema.specs.Commands as spec;
 ghost use Rattle.play_read.specs.Pieces.{piece_length, pieces_left, IsOpenBelow};
 
 use crate::holes::hole_behind;
-use text_parts::is_blank;
+use text_syntax::is_blank;
 
 /// The first piece, and the text behind the blank that ends it. In fewer bytes than `tail` at its end no hole is closed.
 pub(crate) fn cut_piece(text: &str, tail: usize) -> (&str, Option<&str>)

@@ -1,18 +1,18 @@
 //! A play, whole.
-#![tactic(auto, using(play_rules::proofs::AddLaws::findings_in_turn))]
+#![tactic(auto, using(playbook_schema::proofs::AddLaws::findings_in_turn))]
 
 ghost use Rattle.std.specs.Prelude.{◌≡◌, ◌+◌, ◌++◌, ◌∷◌, ◌≤◌, [], IfOk, OnOk, length, map, nat_le, true};
 ghost use Rattle.serde_json.specs.Find.{get};
 ghost use Rattle.serde_json.specs.View.{view};
 ghost use Rattle.play_model.specs.declared.play.Play.{Play};
-ghost use Rattle.play_rules.specs.Breaches.{all_in};
-ghost use Rattle.play_rules.specs.Checks.{AllKept};
-ghost use Rattle.play_rules.specs.Keys.{tasks_key};
-ghost use Rattle.play_rules.specs.Paths.{below, given_path};
-ghost use Rattle.play_rules.specs.Places.{path_at, play_path};
-ghost use Rattle.play_rules.specs.Plays as spec;
-ghost use Rattle.play_rules.specs.Told.{Adds};
-ghost use Rattle.play_rules.specs.ToldFaults.{is_silent};
+ghost use Rattle.playbook_schema.specs.Breaches.{all_in};
+ghost use Rattle.playbook_schema.specs.Checks.{AllKept};
+ghost use Rattle.playbook_schema.specs.Keys.{tasks_key};
+ghost use Rattle.playbook_schema.specs.Paths.{below, given_path};
+ghost use Rattle.playbook_schema.specs.Places.{path_at, play_path};
+ghost use Rattle.playbook_schema.specs.Plays as spec;
+ghost use Rattle.playbook_schema.specs.Told.{Adds};
+ghost use Rattle.playbook_schema.specs.ToldFaults.{is_silent};
 ghost use Rattle.play_read.specs.PlayParts.{AreStepsOf, IsSettings};
 ghost use Rattle.play_read.specs.Reads.{IsPlay};
 
@@ -22,7 +22,7 @@ use crate::steps::{are_readable, handlers_of, is_object, tasks_of};
 use crate::tasks::read_tasks;
 use group_tree::Percentage;
 use play_model::{OnBlocked, Play, STEPS_BOUND, Size, Step};
-use play_rules::{
+use playbook_schema::{
     Below, FaultCollector, Flaw, Keys, NameList, Place, PlayPlace, check_keys, read_mode,
     read_pattern, read_percent, read_sizes,
 };

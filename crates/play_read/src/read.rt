@@ -3,17 +3,17 @@ ghost use Rattle.std.specs.Prelude.{◌≡◌, ◌∷◌, [], Some, IfOk, IfErr,
 ghost use Rattle.std.specs.List.{AllZip};
 ghost use Rattle.serde_json.specs.Read.{read};
 ghost use Rattle.serde_json.specs.View.{view};
-ghost use Rattle.text_parts.specs.Texts.{IsNoJson};
-ghost use Rattle.play_rules.specs.Breaches.{NotJson};
-ghost use Rattle.play_rules.specs.Checks.{AllKept, rule};
-ghost use Rattle.play_rules.specs.Plays.{checks, plays_of};
-ghost use Rattle.play_rules.specs.Told.{Tells};
-ghost use Rattle.play_rules.specs.ToldFaults.{AreTold, is_empty};
+ghost use Rattle.text_syntax.specs.Texts.{IsNoJson};
+ghost use Rattle.playbook_schema.specs.Breaches.{NotJson};
+ghost use Rattle.playbook_schema.specs.Checks.{AllKept, rule};
+ghost use Rattle.playbook_schema.specs.Plays.{checks, plays_of};
+ghost use Rattle.playbook_schema.specs.Told.{Tells};
+ghost use Rattle.playbook_schema.specs.ToldFaults.{AreTold, is_empty};
 ghost use Rattle.play_read.specs.Reads.{AreFaultsOf, AreToldBy, IsPlay, IsReadAs, IsTrueOf};
 
 use crate::document::read_document;
 use play_model::Play;
-use play_rules::{FaultCollector, Flaw, Place, PlayFault, Told};
+use playbook_schema::{FaultCollector, Flaw, Place, PlayFault, Told};
 use serde_json::Value;
 use std::alloc::{AllocError, Global};
 

@@ -1,6 +1,6 @@
 //! From a text to its words.
 ghost use Rattle.std.specs.Prelude.{◌≡◌, IfOk};
-ghost use Rattle.play_rules.specs.Commands as spec;
+ghost use Rattle.playbook_schema.specs.Commands as spec;
 
 use crate::holes::tail_of_last_closing;
 use crate::pieces::cut_piece;

@@ -1,15 +1,15 @@
 //! From a value to a step: each key is read by a function of its own.
-#![tactic(auto, using(play_rules::proofs::AddLaws::findings_in_turn))]
+#![tactic(auto, using(playbook_schema::proofs::AddLaws::findings_in_turn))]
 
 ghost use Rattle.std.specs.Prelude.{◌≡◌, [], IfOk, OnOk, option_and_then, option_map, string_bytes, unwrap_or};
 ghost use Rattle.serde_json.specs.Find.{get};
 ghost use Rattle.serde_json.specs.View.{view};
-ghost use Rattle.play_rules.specs.Checks.{AllKept};
-ghost use Rattle.play_rules.specs.Commands.{words_in};
-ghost use Rattle.play_rules.specs.Keys.{register_key, when_key, changed_key, failed_key};
-ghost use Rattle.play_rules.specs.Places.{path_at, spot_of, step_path, step_spot};
-ghost use Rattle.play_rules.specs.Steps as spec;
-ghost use Rattle.play_rules.specs.Told.{Adds};
+ghost use Rattle.playbook_schema.specs.Checks.{AllKept};
+ghost use Rattle.playbook_schema.specs.Commands.{words_in};
+ghost use Rattle.playbook_schema.specs.Keys.{register_key, when_key, changed_key, failed_key};
+ghost use Rattle.playbook_schema.specs.Places.{path_at, spot_of, step_path, step_spot};
+ghost use Rattle.playbook_schema.specs.Steps as spec;
+ghost use Rattle.playbook_schema.specs.Told.{Adds};
 ghost use Rattle.play_read.specs.Readings.{IsStep};
 ghost use Rattle.play_read.specs.Says.{SaysUnder};
 
@@ -18,7 +18,7 @@ use crate::conditions::read_condition;
 use crate::held::put;
 use crate::steps::is_object;
 use play_model::{Step, Words};
-use play_rules::{
+use playbook_schema::{
     Below, ConditionKey, FaultCollector, Flaw, Place, StepPlace, check_keys, read_ignore,
     read_name, read_register,
 };

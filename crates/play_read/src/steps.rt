@@ -2,12 +2,12 @@
 ghost use Rattle.std.specs.Prelude.{◌≡◌, [], map, unwrap_or};
 ghost use Rattle.serde_json.specs.Find.{get};
 ghost use Rattle.serde_json.specs.View.{view};
-ghost use Rattle.text_parts.specs.Shapes as shapes;
-ghost use Rattle.play_rules.specs.Keys.{handlers_key};
-ghost use Rattle.play_rules.specs.Plays as spec;
+ghost use Rattle.text_syntax.specs.Shapes as shapes;
+ghost use Rattle.playbook_schema.specs.Keys.{handlers_key};
+ghost use Rattle.playbook_schema.specs.Plays as spec;
 
 use serde_json::Value;
-use text_parts::elements_of;
+use text_syntax::elements_of;
 
 pub(crate) fn is_object(value: &Value) -> bool
     ensures { result ≡ shapes.is_object (view value.now) }

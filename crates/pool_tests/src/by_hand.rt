@@ -4,8 +4,7 @@ ghost use Rattle.std.specs.Prelude.{◌≡◌, ◌<◌, ◌≤◌};
 use crate::faults::opened;
 use fork_pool::{Front, StepFault, WorkerEnd, pool};
 use group_tree::HostId;
-use roll_core::{Board, Go, History, Job, Outcome, Runner, Unwatched};
-use sample_fleets::{Setting, limited_again, set_up};
+use roll_core::{Board, Go, History, Job, NoObserver, Outcome, Runner};
 use std::alloc::{AllocError, Global};
 use std::marker::Brand;
 use std::process::{Processes, SystemProcess};
@@ -15,6 +14,7 @@ use std::sync::ledger::{Blank, Ledger};
 use std::test::Fail;
 use std::thread;
 use std::thread::Threads;
+use test_fleets::{Setting, limited_again, set_up};
 
 /// How long is waited at most, in turns of a look and a yield: some seconds.
 const TURNS: u32 = 10_000_000;
@@ -186,8 +186,8 @@ fn step_alone<'f, L: Ledger, H: Wait>(
     rt: &H,
     alloc: Global,
     front: &mut Front<'f, Hands>,
-    board: Board<'f, Hands, L, Unwatched>,
-) -> Result<Board<'f, Hands, L, Unwatched>, (StepFault, Board<'f, Hands, L, Unwatched>)>
+    board: Board<'f, Hands, L, NoObserver>,
+) -> Result<Board<'f, Hands, L, NoObserver>, (StepFault, Board<'f, Hands, L, NoObserver>)>
     requires forks { front.old.forks ≡ board.kernel.forks }
     requires tallies { board.tallies ≡ 0 }
 {
@@ -201,9 +201,9 @@ fn with_hands<'f, L: Ledger, H: Threads + Wait + Processes<Started = SystemProce
     front: Front<'f, Hands>,
     first: WorkerEnd<'f, Hands>,
     second: WorkerEnd<'f, Hands>,
-    board: Board<'f, Hands, L, Unwatched>,
+    board: Board<'f, Hands, L, NoObserver>,
     hands: &'f Hands,
-) -> Result<Board<'f, Hands, L, Unwatched>, (StepFault, Board<'f, Hands, L, Unwatched>)>
+) -> Result<Board<'f, Hands, L, NoObserver>, (StepFault, Board<'f, Hands, L, NoObserver>)>
     requires forks { front.forks ≡ board.kernel.forks }
     requires tallies { board.tallies ≡ 0 }
 {
@@ -211,8 +211,8 @@ fn with_hands<'f, L: Ledger, H: Threads + Wait + Processes<Started = SystemProce
         thread::scope_env(),
         rt,
         move |scope| -> Result<
-            Board<'_, Hands, L, Unwatched>,
-            (StepFault, Board<'_, Hands, L, Unwatched>),
+            Board<'_, Hands, L, NoObserver>,
+            (StepFault, Board<'_, Hands, L, NoObserver>),
         >
             requires forks { front.forks ≡ board.kernel.forks }
             requires tallies { board.tallies ≡ 0 }
@@ -233,7 +233,7 @@ fn with_hands<'f, L: Ledger, H: Threads + Wait + Processes<Started = SystemProce
 
 /// Want of memory is told of this place, so many claims are out, and so many hosts have reported.
 fn is_told<L: Ledger>(
-    answer: Result<Board<'_, Hands, L, Unwatched>, (StepFault, Board<'_, Hands, L, Unwatched>)>,
+    answer: Result<Board<'_, Hands, L, NoObserver>, (StepFault, Board<'_, Hands, L, NoObserver>)>,
     place: usize,
     out: usize,
     reports: usize,
@@ -261,7 +261,7 @@ fn step_by_plan<'s, L: Ledger, H: Threads + Wait + Processes<Started = SystemPro
     blank: Blank,
     history: History,
 ) -> Result<
-    Result<Board<'s, Hands, L, Unwatched>, (StepFault, Board<'s, Hands, L, Unwatched>)>,
+    Result<Board<'s, Hands, L, NoObserver>, (StepFault, Board<'s, Hands, L, NoObserver>)>,
     Fail,
 >
     requires some { 0 < forks }

@@ -4,8 +4,7 @@ ghost use Rattle.std.specs.Prelude.{◌≡◌, ◌<◌, ◌≤◌, IfOk};
 use crate::rows::{BATCHES, SIX, THREE_STEPS, one_more_row, script_again, six_hosts};
 use fork_pool::{Script, StepFault, pool, run_step};
 use group_tree::HostId;
-use roll_core::{Board, History, Runner, Unwatched};
-use sample_fleets::{Setting, board_of, limited_again, set_up};
+use roll_core::{Board, History, NoObserver, Runner};
 use std::alloc::Global;
 use std::marker::Brand;
 use std::process::{Processes, SystemProcess};
@@ -13,6 +12,7 @@ use std::sync::Wait;
 use std::sync::ledger::{Blank, Ledger};
 use std::test::Fail;
 use std::thread::Threads;
+use test_fleets::{Setting, board_of, limited_again, set_up};
 
 const SKIPPED: &str = r#"[{"hosts":"all","tasks":[{"command":"x","when":false}]}]"#;
 
@@ -25,7 +25,7 @@ pub fn opened<'s, R: Runner, L: Ledger>(
     batch: &[HostId],
     blank: Blank,
     history: History,
-) -> Result<Board<'s, R, L, Unwatched>, Fail>
+) -> Result<Board<'s, R, L, NoObserver>, Fail>
     requires some { 0 < forks }
     requires few { forks ≤ 64 }
     requires name { blank.name ≡ L.name }
@@ -46,7 +46,7 @@ pub fn opened<'s, R: Runner, L: Ledger>(
 
 /// The board came back with this fault and so many claims out, or without a fault and with so many reports.
 fn came_back<L: Ledger>(
-    answer: Result<Board<'_, Script, L, Unwatched>, (StepFault, Board<'_, Script, L, Unwatched>)>,
+    answer: Result<Board<'_, Script, L, NoObserver>, (StepFault, Board<'_, Script, L, NoObserver>)>,
     fault: Option<StepFault>,
     count: usize,
 ) -> Result<(), Fail> {
@@ -73,7 +73,7 @@ fn step_of_both<'s, L: Ledger, H: Threads + Wait + Processes<Started = SystemPro
     blank: Blank,
     history: History,
 ) -> Result<
-    Result<Board<'s, Script, L, Unwatched>, (StepFault, Board<'s, Script, L, Unwatched>)>,
+    Result<Board<'s, Script, L, NoObserver>, (StepFault, Board<'s, Script, L, NoObserver>)>,
     Fail,
 >
     requires name { blank.name ≡ L.name }
@@ -110,7 +110,7 @@ fn step_of_none<'s, L: Ledger, H: Wait>(
     blank: Blank,
     history: History,
 ) -> Result<
-    Result<Board<'s, Script, L, Unwatched>, (StepFault, Board<'s, Script, L, Unwatched>)>,
+    Result<Board<'s, Script, L, NoObserver>, (StepFault, Board<'s, Script, L, NoObserver>)>,
     Fail,
 >
     requires name { blank.name ≡ L.name }

@@ -5,7 +5,6 @@ use crate::rolling::{Rolled, roll_apart};
 use fork_pool::StepFault;
 use group_tree::HostId;
 use roll_core::{Board, Go, History, Job, Outcome, Runner};
-use sample_fleets::{Setting, board_of, limited_again, set_up};
 use std::alloc::{AllocError, Global};
 use std::marker::Brand;
 use std::process::{Processes, SystemProcess};
@@ -15,6 +14,7 @@ use std::sync::ledger::{Blank, Ledger};
 use std::test::Fail;
 use std::thread;
 use std::thread::Threads;
+use test_fleets::{Setting, board_of, limited_again, set_up};
 
 const TURNS: u32 = 1_000_000;
 

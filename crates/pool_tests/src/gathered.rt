@@ -1,6 +1,6 @@
 //! A line whose takers stop at a ticket that says so. Their ends come back, so that it is known what all took together.
 ghost use Rattle.std.specs.Prelude.{◌≡◌, ◌<◌, All, IfOk, vec_len};
-ghost use Rattle.ticket_line.specs.Hands.{SameTickets};
+ghost use Rattle.ticket_channel.specs.Hands.{SameTickets};
 
 use std::alloc::{AllocError, Global};
 use std::snapshot::Snapshot;
@@ -8,7 +8,7 @@ use std::sync::Wait;
 use std::test::*;
 use std::thread;
 use std::thread::{Promise, PromisedHandle, Threads};
-use ticket_line::{PutEnd, TakeEnd, line};
+use ticket_channel::{ChannelReceiver, ChannelSender, line};
 
 /// A number, or the word to stop.
 #[derive(Drop)]
@@ -20,17 +20,17 @@ enum Slip {
 /// The end that a thread gives back is of the line of the end that it was given.
 #[derive(Drop)]
 struct SameLine {
-    given: Snapshot<TakeEnd<Slip>>,
+    given: Snapshot<ChannelReceiver<Slip>>,
 }
 
-impl Promise<TakeEnd<Slip>> for SameLine {
+impl Promise<ChannelReceiver<Slip>> for SameLine {
     ghost kept_by = { λ promise end. end.line ≡ promise.given.value.line };
 }
 
-type Worker = PromisedHandle<TakeEnd<Slip>, SameLine>;
+type Worker = PromisedHandle<ChannelReceiver<Slip>, SameLine>;
 
 /// Takes until it is told to stop.
-fn take_all<H: Wait>(rt: &H, mut end: TakeEnd<Slip>) -> TakeEnd<Slip>
+fn take_all<H: Wait>(rt: &H, mut end: ChannelReceiver<Slip>) -> ChannelReceiver<Slip>
     ensures { result.line ≡ end.line }
 {
     for _ in rt.forever() {
@@ -43,7 +43,7 @@ fn take_all<H: Wait>(rt: &H, mut end: TakeEnd<Slip>) -> TakeEnd<Slip>
 }
 
 /// Puts a slip, as soon as there is room.
-fn put<H: Wait>(rt: &H, front: &mut PutEnd<Slip>, mut slip: Slip)
+fn put<H: Wait>(rt: &H, front: &mut ChannelSender<Slip>, mut slip: Slip)
     ensures { (front.new.line ≡ front.old.line) × (front.new.takers ≡ front.old.takers) }
 {
     for _ in rt.forever() {
@@ -56,7 +56,7 @@ fn put<H: Wait>(rt: &H, front: &mut PutEnd<Slip>, mut slip: Slip)
 }
 
 /// Puts the numbers, and a word to stop for each worker.
-fn put_all<H: Wait>(rt: &H, front: &mut PutEnd<Slip>, numbers: usize, workers: usize)
+fn put_all<H: Wait>(rt: &H, front: &mut ChannelSender<Slip>, numbers: usize, workers: usize)
     ensures { (front.new.line ≡ front.old.line) × (front.new.takers ≡ front.old.takers) }
 {
     for number in 0..numbers {
@@ -68,7 +68,7 @@ fn put_all<H: Wait>(rt: &H, front: &mut PutEnd<Slip>, numbers: usize, workers: u
 }
 
 /// Joins the workers, whose ends come back.
-fn gather_all<H: Threads>(rt: &H, front: &mut PutEnd<Slip>, workers: Vec<Worker>)
+fn gather_all<H: Threads>(rt: &H, front: &mut ChannelSender<Slip>, workers: Vec<Worker>)
     requires line { All (λ worker. worker.promise.given.value.line ≡ front.old.line) workers.items }
     requires all { front.old.takers ≡ vec_len workers }
     ensures { front.new.takers ≡ 0 }
@@ -79,7 +79,7 @@ fn gather_all<H: Threads>(rt: &H, front: &mut PutEnd<Slip>, workers: Vec<Worker>
 }
 
 /// Takes back what is left. What was taken is then what was put.
-fn settle<H: Wait>(rt: &H, front: &mut PutEnd<Slip>)
+fn settle<H: Wait>(rt: &H, front: &mut ChannelSender<Slip>)
     requires { front.old.takers ≡ 0 }
     ensures { SameTickets front.new.put front.new.taken }
 {
@@ -96,14 +96,14 @@ fn pass_round<H: Threads + Wait + Sync>(
     alloc: Global,
     numbers: usize,
     workers: usize,
-) -> Result<PutEnd<Slip>, AllocError>
+) -> Result<ChannelSender<Slip>, AllocError>
     ensures { IfOk result (λ front. SameTickets front.put front.taken) }
 {
     let (mut front, ends) = line(alloc, 2, workers)?;
     thread::scope(
         thread::scope_env(),
         rt,
-        move |scope| -> Result<PutEnd<Slip>, AllocError>
+        move |scope| -> Result<ChannelSender<Slip>, AllocError>
             requires line { All (λ end. end.line ≡ front.line) ends.items }
             requires all { front.takers ≡ vec_len ends }
             ensures { IfOk result (λ front. SameTickets front.put front.taken) }

@@ -1,7 +1,7 @@
 //! Rolls in batches that are given, each step on a pool of its own. No command does: its plays share a pool.
 use fork_pool::{StepFault, run_step};
 use group_tree::HostId;
-use roll_core::{Board, OpenFault, Runner, Stage, Unwatched};
+use roll_core::{Board, NoObserver, OpenFault, Runner, Stage};
 use std::alloc::Global;
 use std::process::{Processes, SystemProcess};
 use std::sync::Wait;
@@ -12,9 +12,9 @@ use std::thread::Threads;
 /// How a roll went.
 #[derive(Drop)]
 pub enum Rolled<'s, R: Runner, L: Ledger> {
-    ToItsEnd(Board<'s, R, L, Unwatched>),
+    ToItsEnd(Board<'s, R, L, NoObserver>),
     /// A step did not come to its end.
-    Stopped(StepFault, Board<'s, R, L, Unwatched>),
+    Stopped(StepFault, Board<'s, R, L, NoObserver>),
     /// There was no memory for a batch.
     NoMemory,
 }
@@ -30,7 +30,7 @@ type Batch<'b> = &'b [HostId];
 
 fn move_on<'s, R: Runner, L: Ledger>(
     alloc: Global,
-    board: &mut Board<'s, R, L, Unwatched>,
+    board: &mut Board<'s, R, L, NoObserver>,
     batches: &[Batch<'_>],
     opened: &mut usize,
 ) -> Result<Turn, Fail> {
@@ -70,7 +70,7 @@ pub fn roll_apart<
 >(
     rt: &H,
     alloc: Global,
-    mut board: Board<'s, R, L, Unwatched>,
+    mut board: Board<'s, R, L, NoObserver>,
     batches: &[Batch<'_>],
 ) -> Result<Rolled<'s, R, L>, Fail> {
     let mut opened = 0;

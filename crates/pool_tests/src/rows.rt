@@ -4,14 +4,14 @@ ghost use Rattle.std.specs.Prelude.{◌≡◌, ◌<◌, ◌≤◌};
 use crate::rolling::{Rolled, roll_apart};
 use fork_pool::{Script, StepFault};
 use group_tree::HostId;
-use roll_core::{Board, Counts, History, Outcome, Runner, Status, Unwatched};
-use sample_fleets::{Setting, board_of, limited_again, set_up};
+use roll_core::{Board, Counts, History, NoObserver, Outcome, Runner, Status};
 use std::alloc::{AllocError, Global};
 use std::process::{Processes, SystemProcess};
 use std::sync::Wait;
 use std::sync::ledger::{Blank, Ledger};
 use std::test::Fail;
 use std::thread::Threads;
+use test_fleets::{Setting, board_of, limited_again, set_up};
 
 pub const THREE_STEPS: &str =
     r#"[{"hosts":"all","tasks":[{"command":"x"},{"command":"y"},{"command":"z"}]}]"#;
@@ -66,7 +66,7 @@ fn is_row(counts: Counts, rows: (u32, u32, u32)) -> bool {
 }
 
 /// Each host has its rows and its status, and each report is counted.
-fn is_as_worked<R: Runner, L: Ledger>(board: &Board<'_, R, L, Unwatched>) -> bool {
+fn is_as_worked<R: Runner, L: Ledger>(board: &Board<'_, R, L, NoObserver>) -> bool {
     for index in 0..SIX.len() {
         let host = HostId { index };
         let (rows, status) = if host == FAILS {

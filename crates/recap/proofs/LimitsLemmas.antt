@@ -11,7 +11,7 @@ use Rattle.std.proofs.lemmas.List.Sums.{length-filter}
 use Rattle.group_tree.specs.Names.{Name}
 use Rattle.group_tree.specs.Places.{Place, Inventory}
 use Rattle.group_tree.specs.Members.{holds}
-use Rattle.fleet_numbers.specs.NumberLists.{list_at, numbers_where}
+use Rattle.fleet_index.specs.NumberLists.{list_at, numbers_where}
 use Rattle.domains.specs.FleetViews.{FleetView, down_at_start, off_count}
 use Rattle.domains.specs.Fleets.{IsFleetOf}
 use Rattle.domains.specs.Hosts.{hosts_of, is_off}

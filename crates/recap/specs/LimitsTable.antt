@@ -6,7 +6,7 @@ use Rattle.group_tree.specs.Places.{Place, Inventory}
 use Rattle.domains.specs.Hosts.{hosts_of}
 use Rattle.domains.specs.Starts.{allowed_of, hosts_off, member_count}
 use Rattle.domains.specs.FleetViews.{FleetView, down_at_start}
-use Rattle.fleet_numbers.specs.NumberLists.{list_at}
+use Rattle.fleet_index.specs.NumberLists.{list_at}
 use Rattle.fleet_states.specs.Statuses.{down_count}
 use Rattle.fleet_states.specs.declared.status.Status.{Status}
 use Rattle.recap.specs.LimitsText.{LimitLine, line_text, table_text}

@@ -1,7 +1,7 @@
 -- When hosts are counted.
 use Rattle.std.specs.Prelude.{ℕ}
 use Rattle.domains.specs.FleetViews.{FleetView, down_at_start}
-use Rattle.fleet_numbers.specs.NumberLists.{list_at}
+use Rattle.fleet_index.specs.NumberLists.{list_at}
 use Rattle.fleet_states.specs.Statuses.{down_count}
 use Rattle.recap.specs.declared.limits.Moment.{Moment}
 use Rattle.recap.specs.declared.limits.Moment.TheVariants.{Start, By}

@@ -10,10 +10,10 @@ use Rattle.fleet_states.specs.Statuses.{status_at}
 use Rattle.batch_plan.specs.declared.answers.Answer.{Answer}
 use Rattle.host_track.specs.Counting.{counts_of}
 use Rattle.host_track.specs.declared.counts.Counts.{Counts}
-use Rattle.play_course.specs.Courses.{next_batch}
-use Rattle.play_course.specs.declared.boundary.Boundary.{Boundary}
-use Rattle.play_course.specs.declared.end.End.{End}
-use Rattle.play_course.specs.declared.end.End.TheVariants as ending
+use Rattle.play_forecast.specs.Courses.{next_batch}
+use Rattle.play_forecast.specs.declared.boundary.Boundary.{Boundary}
+use Rattle.play_forecast.specs.declared.end.End.{End}
+use Rattle.play_forecast.specs.declared.end.End.TheVariants as ending
 use Rattle.recap.specs.LimitsText.{field_text}
 use Rattle.recap.specs.PlanText.{answer_line, held_line, names_line}
 use Rattle.recap.specs.declared.parts.Recap.{Recap}

@@ -9,7 +9,7 @@ use crate::names::write_names_line;
 use crate::plan::{write_answer_line, write_held};
 use bounded_io::TextWriter;
 use domains::Fleet;
-use play_course::Boundary;
+use play_forecast::Boundary;
 use std::io::Write;
 
 /// Writes the line of the batch that was opened, where one was.

@@ -7,7 +7,7 @@ use crate::names::group_name;
 use bounded_io::TextWriter;
 use domains::Fleet;
 use group_tree::GroupId;
-use play_course::End;
+use play_forecast::End;
 use std::io::Write;
 
 #[tactic(auto, using(bounded_io::proofs::Pieces::pieces_of_text))]

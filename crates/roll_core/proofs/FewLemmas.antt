@@ -1,7 +1,7 @@
 -- Distinct numbers below a bound are few.
 use Rattle.std.proofs.Common.{◌≡◌, ℕ, zero, suc, ◌≤◌, ◌<◌, nat_eq, Bool, true, false, not, List, [], ◌∷◌, length, arith, inl, inr, ◌⊎◌, sym, ap, ◌∙◌, refl}
 use Rattle.std.proofs.lemmas.Bool.{both_ways, cases_lt, eq-eqb, or_left}
-use Rattle.fleet_numbers.specs.NumberLists.{has_number}
+use Rattle.fleet_index.specs.NumberLists.{has_number}
 use Rattle.fleet_states.specs.Statuses.{are_distinct}
 use Rattle.event_log.specs.States.{without}
 use Rattle.event_log.proofs.OutLemmas.{has_without}

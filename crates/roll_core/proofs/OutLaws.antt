@@ -1,7 +1,7 @@
 -- What is out, and stays so until it is reported.
 use Rattle.std.proofs.Common.{◌≡◌, ℕ, nat_eq, true, Some, List, sym, ap, ◌∙◌, subst}
 use Rattle.std.proofs.lemmas.Bool.{eq-eqb, or_left, or_right}
-use Rattle.fleet_numbers.specs.NumberLists.{has_number}
+use Rattle.fleet_index.specs.NumberLists.{has_number}
 use Rattle.host_track.specs.Tracks.{Entry, step_at}
 use Rattle.host_track.specs.Endings.{Ending}
 use Rattle.play_model.specs.declared.step.Step.{Step}

@@ -1,7 +1,7 @@
 -- The log has places for the events to come.
 use Rattle.std.proofs.Common.{◌≡◌, ℕ, suc, ◌+◌, ◌-◌, ◌≤◌, ◌<◌, nat_lt, Bool, true, false, not, Option, Some, None, List, [], length, if◌then◌else◌, sym, ap, refl, subst, arith}
 use Rattle.std.proofs.lemmas.Bool.{ltb-true}
-use Rattle.fleet_numbers.specs.NumberLists.{has_number}
+use Rattle.fleet_index.specs.NumberLists.{has_number}
 use Rattle.fleet_states.specs.Statuses.{are_distinct}
 use Rattle.play_model.specs.declared.play.Play.{Play}
 use Rattle.host_track.specs.Endings.{Ending}

@@ -2,14 +2,14 @@
 use Rattle.std.proofs.Common.{◌≡◌, ℕ, zero, suc, ◌<◌, nat_eq, Bool, true, false, ◌&&◌, ◌||◌, ◌⊎◌, inl, inr, cond, Decides, Some, None, find, List, [], ◌∷◌, length, sym, ap, ◌∙◌, refl, subst, arith}
 use Rattle.std.specs.List.{list_any, slice_get}
 use Rattle.std.proofs.lemmas.Bool.{and_parts, both_ways, eq-eqb, eqb-true, ltb-true, or_cases, or_left, or_right}
-use Rattle.fleet_numbers.specs.NumberLists.{has_number}
+use Rattle.fleet_index.specs.NumberLists.{has_number}
 use Rattle.domains.specs.Ids.{host_numbers}
 use Rattle.fleet_states.proofs.NumberLemmas.{number_below}
 use Rattle.play_model.specs.declared.play.Play.{Play}
 use Rattle.play_model.specs.declared.step.Step.{Step}
 use Rattle.host_track.specs.Endings.{ending_of}
 use Rattle.host_track.specs.Asking.{Request}
-use Rattle.host_track.specs.declared.asked.Asked.{Asked}
+use Rattle.host_track.specs.declared.step_request.StepRequest.{StepRequest}
 use Rattle.host_track.specs.Tracks.{step_at}
 use Rattle.host_track.specs.declared.summary.Summary.{Summary}
 use Rattle.event_log.specs.Rolls.{EndsAs, Roll}
@@ -25,8 +25,8 @@ use Rattle.event_log.specs.declared.turn.Turn.TheVariants.{Over, Due, Out}
 use Rattle.event_log.specs.declared.work.BatchWork.{BatchWork}
 use Rattle.event_log.specs.Turns.{awaits, is_out, is_within, turn_at}
 use Rattle.event_log.specs.Works.{IsGiven, IsWorkOf, is_awaited_by, phase_of}
-use Rattle.roll_core.specs.declared.way.Way.{Way}
-use Rattle.roll_core.specs.declared.way.Way.TheVariants.{Program, Settled}
+use Rattle.roll_core.specs.declared.step_end.StepEnd.{StepEnd}
+use Rattle.roll_core.specs.declared.step_end.StepEnd.TheVariants.{Program, Settled}
 use Rattle.roll_core.specs.Ways.{Completed, is_end, outcome_in, request_of}
 use Rattle.roll_core.specs.Claims.{IsOut}
 use Rattle.roll_core.specs.KernelInside.{GoesOn, IsGivenOut}
@@ -72,7 +72,7 @@ goes_on play state step =
     by_case false false true = inr (inl refl)
     by_case false false false = inl refl
 
-pub ends_as : (way : Way) → is_end way ≡ true → EndsAs (request_of way) (ending_of (outcome_in way))
+pub ends_as : (way : StepEnd) → is_end way ≡ true → EndsAs (request_of way) (ending_of (outcome_in way))
 ends_as (Program words outcome) is = is
 ends_as (Settled outcome) is = refl
 
@@ -90,16 +90,16 @@ may_report roll state completion ends out =
 
 module _ (roll : Roll) (state : State) (work : BatchWork) (is : IsWorkOf roll state work) where
   -- who is out has been given something
-  pub out_given : (host : ℕ) → has_number host state.out ≡ true → (asked : Asked) × (turn_at work.turns.items host ≡ Out asked)
+  pub out_given : (host : ℕ) → has_number host state.out ≡ true → (asked : StepRequest) × (turn_at work.turns.items host ≡ Out asked)
   out_given host here = by_case (turn_at work.turns.items host) refl
     where
-      by_case : (turn : Turn) → turn_at work.turns.items host ≡ turn → (asked : Asked) × (turn_at work.turns.items host ≡ Out asked)
+      by_case : (turn : Turn) → turn_at work.turns.items host ≡ turn → (asked : StepRequest) × (turn_at work.turns.items host ≡ Out asked)
       by_case Over e = absurd (both_ways true (sym here ∙ sym (is.taken host) ∙ ap is_out e) refl)
       by_case Due e = absurd (both_ways true (sym here ∙ sym (is.taken host) ∙ ap is_out e) refl)
       by_case (Out asked) e = (asked, e)
 
   -- and is in the batch
-  pub out_inside : (host : ℕ) (asked : Asked) → turn_at work.turns.items host ≡ Out asked → has_number host state.batch ≡ true
+  pub out_inside : (host : ℕ) (asked : StepRequest) → turn_at work.turns.items host ≡ Out asked → has_number host state.batch ≡ true
   out_inside host asked turn =
       (and_parts (has_number host state.batch) (is_awaited_by roll.play state.phase (state.rows host)) (sym (is.awaited host) ∙ ap awaits turn)).0
 
@@ -129,7 +129,7 @@ module _ (roll : Roll) (state : State) (work : BatchWork) (is : IsWorkOf roll st
             sym named ∙ sym (is.awaited host) ∙ found_none (λ h. awaits (turn_at work.turns.items h)) (host_numbers work.batch.items) host none (ap (has_number host) is.batch ∙ here)
 
     -- what a host that is out was given is what the step asks of it
-    given : (host : ℕ) (asked : Asked) (task : Step) → turn_at work.turns.items host ≡ Out asked → step_at roll.play step ≡ Some task
+    given : (host : ℕ) (asked : StepRequest) (task : Step) → turn_at work.turns.items host ≡ Out asked → step_at roll.play step ≡ Some task
         → (summary : Summary) × IsGiven roll state host summary.vars asked task
     given host asked task turn named =
         let got = get_in work.summaries.items host (host_within host (out_inside host asked turn)) in

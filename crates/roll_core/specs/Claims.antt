@@ -1,6 +1,6 @@
 -- What a kernel hands out, and what it takes back.
 use Rattle.std.specs.Prelude.{◌≡◌, ℕ, ◌≤◌, ◌⊎◌, true, Option, Some, None, find, length}
-use Rattle.fleet_numbers.specs.NumberLists.{has_number}
+use Rattle.fleet_index.specs.NumberLists.{has_number}
 use Rattle.play_model.specs.declared.step.Step.{Step}
 use Rattle.host_track.specs.Endings.{Ending}
 use Rattle.host_track.specs.Asking.{Request, job, settled}

@@ -7,7 +7,7 @@ use Rattle.roll_core.specs.Claims.{IsClaim}
 use Rattle.roll_core.specs.declared.claimed.Claimed.{Claimed}
 use Rattle.roll_core.specs.declared.claimed.Claimed.TheVariants.{Run, Settled}
 use Rattle.roll_core.specs.Boards.{BoardView}
-use Rattle.roll_core.specs.Leaves.{IsGoOf}
+use Rattle.roll_core.specs.RunPermits.{IsGoOf}
 
 -- what is handed out as settled had no program; a claim has one
 abbrev pub IsOfNoProgram : Handed → Type 0

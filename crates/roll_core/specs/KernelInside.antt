@@ -1,6 +1,6 @@
 -- What only the proofs need: what the kernel keeps between its calls.
 use Rattle.std.specs.Prelude.{◌≡◌, ℕ, suc, ◌+◌, ◌-◌, ◌<◌, ◌≤◌, ◌⊎◌, Bool, ◌&&◌, not, Some, None, length}
-use Rattle.fleet_numbers.specs.NumberLists.{has_number}
+use Rattle.fleet_index.specs.NumberLists.{has_number}
 use Rattle.fleet_states.specs.Statuses.{NobodyRuns}
 use Rattle.fleet_states.specs.Groups.{IsSafe, groups_of}
 use Rattle.down_ledger.specs.Rosters.{RosterView, seated_at}
@@ -8,7 +8,7 @@ use Rattle.event_log.specs.Rolls.{Roll}
 use Rattle.event_log.specs.States.{Phase, State, between, working, ended, start_state}
 use Rattle.event_log.specs.Logs.{IsLegal}
 use Rattle.host_track.specs.Asking.{asked_as}
-use Rattle.host_track.specs.declared.asked.Asked.{Asked}
+use Rattle.host_track.specs.declared.step_request.StepRequest.{StepRequest}
 use Rattle.event_log.specs.declared.turn.Turn.TheVariants.{Out}
 use Rattle.event_log.specs.declared.work.BatchWork.{BatchWork}
 use Rattle.event_log.specs.Turns.{turn_at}
@@ -56,6 +56,6 @@ pub record IsKept (kernel : KernelView) (roster : RosterView) (work : BatchWork)
 
 -- the host is out, and was asked for what ended in this way
 pub record IsGivenOut (work : BatchWork) (completion : Completed) : Type 0 where
-  pub asked : Asked
+  pub asked : StepRequest
   pub turn : turn_at work.turns.items completion.host ≡ Out asked
   pub same : asked_as asked ≡ completion.request

@@ -9,7 +9,7 @@ pub mod Laws
 pub mod KernelInside
 pub mod Boards
 pub mod Dones
-pub mod Leaves
+pub mod RunPermits
 pub mod Givings
 pub mod Reports
 pub mod Tellings

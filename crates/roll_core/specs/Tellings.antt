@@ -21,8 +21,8 @@ use Rattle.event_log.specs.Told.{Work, asked_of}
 use Rattle.roll_core.specs.Views.{KernelView, roll_of}
 use Rattle.roll_core.specs.declared.claim.Handed.{Handed}
 use Rattle.roll_core.specs.declared.claim.Handed.TheVariants as handed
-use Rattle.roll_core.specs.declared.news.News.{News}
-use Rattle.roll_core.specs.declared.news.News.TheVariants.{Aside, Opening, Begin, Row, Closing}
+use Rattle.roll_core.specs.declared.notification.Notification.{Notification}
+use Rattle.roll_core.specs.declared.notification.Notification.TheVariants.{Aside, Opening, Begin, Row, Closing}
 
 -- hosts are set aside; a batch is open, with the statuses as they are now; a program is to begin; a host has a row more: of which step, how
 -- that ended, the name without a value that it wanted, and how it was judged; a batch is to be closed, with the statuses as its steps
@@ -34,7 +34,7 @@ pub data Telling : Type 0 where
   row : ℕ → ℕ → Ending → Option (List ℕ) → Judged → Telling
   closing : List ℕ → List Status → Option ℕ → Telling
 
-abbrev pub telling_of : News → Telling
+abbrev pub telling_of : Notification → Telling
 telling_of (Aside hosts) = aside (host_numbers hosts.now)
 telling_of (Opening batch statuses) = opening (host_numbers batch.now) statuses.now
 telling_of (Begin work) = begin work.now

@@ -13,8 +13,8 @@ mod tallying;
 
 use crate::history::{History, Place};
 use crate::kernel::Kernel;
+use crate::observer::Observer;
 use crate::runner::Runner;
-use crate::watch::Watch;
 use domains::Fleet;
 use fleet_states::Status;
 use host_vars::Vars;
@@ -28,7 +28,7 @@ use std::sync::ledger::{Blank, Book, Ledger, Share};
 /// `L` names the ledger that ties these to the board. Its watcher has heard what is told of its log, and nothing else. It holds the history until it is
 /// over: whoever drops it has no history any more.
 #[derive(Drop)]
-pub struct Board<'f, R: Runner, L: Ledger, W: Watch> {
+pub struct Board<'f, R: Runner, L: Ledger, W: Observer> {
     kernel: Kernel<'f>,
     runner: &'f R,
     reports: Book<L>,
@@ -40,7 +40,7 @@ pub struct Board<'f, R: Runner, L: Ledger, W: Watch> {
     place: Place,
 }
 
-impl<'f, R: Runner, L: Ledger, W: Watch> Model for Board<'f, R, L, W> {
+impl<'f, R: Runner, L: Ledger, W: Observer> Model for Board<'f, R, L, W> {
     ghost use Rattle.std.specs.Coded.{codes};
     ghost use Rattle.host_vars.specs.contracts.vars.Vars as variables;
     ghost use Rattle.play_model.specs.contracts.play.Play as plays;
@@ -58,7 +58,7 @@ impl<'f, R: Runner, L: Ledger, W: Watch> Model for Board<'f, R, L, W> {
     ghost invariant = { λ b. IsKept (R.may b.runner.now) b.kernel b.tallies b.reports.total L.parts b.rest.parts b.rest.amount b.joined × IsTold W.hears b.kernel b.watch };
 }
 
-impl<'f, R: Runner, L: Ledger, W: Watch> Board<'f, R, L, W> {
+impl<'f, R: Runner, L: Ledger, W: Observer> Board<'f, R, L, W> {
     /// A roll at its first boundary: each host begins with its status and its variables. At most `forks` claims are out at once, 1 to 64. `blank`
     /// is of 129 parts: one for each tally that may be out, and one for the board. Want of memory drops `watch`, and gives the history back.
     #[allow(clippy::too_many_arguments)]

@@ -1,6 +1,6 @@
 //! The hosts of a batch when it is closed.
 ghost use Rattle.std.specs.Prelude.{◌≡◌, ℕ, true, IsTrue, length, false};
-ghost use Rattle.fleet_numbers.specs.NumberLists.{has_number};
+ghost use Rattle.fleet_index.specs.NumberLists.{has_number};
 ghost use Rattle.domains.specs.Ids.{host_numbers};
 ghost use Rattle.fleet_states.specs.Statuses.{are_distinct, is_down, status_at};
 ghost use Rattle.event_log.specs.States as states;

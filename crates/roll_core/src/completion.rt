@@ -1,7 +1,7 @@
 //! A step that is over on a host.
 mod making;
 
-use crate::way::Way;
+use crate::step_end::StepEnd;
 use down_ledger::Share;
 use play_model::Registered;
 use std::marker::Model;
@@ -13,7 +13,7 @@ use std::marker::Model;
 pub struct Completion {
     pub(crate) share: Share,
     pub(crate) step: usize,
-    pub(crate) way: Way,
+    pub(crate) way: StepEnd,
     pub(crate) row: Registered,
 }
 

@@ -1,5 +1,5 @@
 //! The leave to run a program.
-ghost use Rattle.roll_core.specs.Leaves.{IsGoOf};
+ghost use Rattle.roll_core.specs.RunPermits.{IsGoOf};
 
 use crate::job::Job;
 use group_tree::HostId;
@@ -14,7 +14,7 @@ pub struct Go {
 }
 
 impl Model for Go {
-    ghost use Rattle.roll_core.specs.Leaves.{Leave};
+    ghost use Rattle.roll_core.specs.RunPermits.{Leave};
 
     ghost Value = { Leave };
 

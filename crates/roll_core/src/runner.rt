@@ -3,7 +3,7 @@ ghost use Rattle.std.specs.Prelude.{◌≡◌, Decides, true, IfOk};
 ghost use Rattle.host_track.specs.Endings.{Ending, ending_of};
 ghost use Rattle.event_log.specs.Rolls.{is_of_program};
 ghost use Rattle.event_log.specs.Told.{Work};
-ghost use Rattle.roll_core.specs.Leaves.{IsGoOf};
+ghost use Rattle.roll_core.specs.RunPermits.{IsGoOf};
 
 use crate::go::Go;
 use crate::job::Job;

@@ -9,23 +9,23 @@ ghost use Rattle.roll_core.specs.Tellings.{HasHeard, Hears, begun_by, row, telli
 use crate::claim::Handed;
 use crate::event::Event;
 use crate::kernel::Kernel;
-use crate::news::News;
-use crate::watch::Watch;
+use crate::notification::Notification;
+use crate::observer::Observer;
 use event_log::Entered;
 use host_track::Outcome;
 
-pub(crate) fn tell<W: Watch>(watch: &mut W, kernel: &Kernel<'_>, news: &News<'_>)
+pub(crate) fn tell<W: Observer>(watch: &mut W, kernel: &Kernel<'_>, news: &Notification<'_>)
     ensures { W.hears watch.old watch.new kernel.now.fleet kernel.now.play (telling_of news.now) }
 {
-    watch.hear(kernel.fleet(), kernel.play(), news);
+    watch.on_event(kernel.fleet(), kernel.play(), news);
 }
 
 /// A program is to begin, if what was handed out has one.
-pub(crate) fn tell_begin<W: Watch>(watch: &mut W, kernel: &Kernel<'_>, handed: &Handed)
+pub(crate) fn report_begin<W: Observer>(watch: &mut W, kernel: &Kernel<'_>, handed: &Handed)
     ensures { HasHeard (Hears W.hears kernel.now) watch.old watch.new (begun_by handed.now) }
 {
     match handed {
-        Handed::Run(claim) => tell(watch, kernel, &News::Begin { job: claim.job() }),
+        Handed::Run(claim) => tell(watch, kernel, &Notification::Begin { job: claim.job() }),
         Handed::Settled(_completion) => {}
     }
 }
@@ -43,12 +43,12 @@ fn wanted<'a>(outcome: &'a Outcome, entered: &Entered<'a>) -> Option<&'a str>
 }
 
 /// The last event of the log is a report, of which this was found.
-pub(crate) fn tell_row<W: Watch>(watch: &mut W, kernel: &Kernel<'_>, entered: &Entered<'_>)
+pub(crate) fn report_row<W: Observer>(watch: &mut W, kernel: &Kernel<'_>, entered: &Entered<'_>)
     ensures { (log : List events.Event) (host step : ℕ) (ending : Ending) → kernel.now.log ≡ log ++ events.reported host step ending ∷ []
         → HasHeard (Hears W.hears kernel.now) watch.old watch.new (row host step ending (spec.wanted ending (undefined_name entered.now)) entered.now.judged ∷ []) }
 {
     if let Some(Event::Report(host, step, outcome)) = kernel.log().last() {
-        let news = News::Row {
+        let news = Notification::Row {
             host: *host,
             step: *step,
             outcome,

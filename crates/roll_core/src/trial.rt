@@ -3,7 +3,7 @@ ghost use Rattle.std.specs.Prelude.{◌≡◌, IsTrue, MatchResult, length};
 ghost use Rattle.std.specs.List.{list_all};
 ghost use Rattle.domains.specs.Ids.{host_numbers};
 ghost use Rattle.fleet_states.specs.Statuses.{are_ready};
-ghost use Rattle.fleet_states.specs.Groups.{Fits, IsSafe, groups_of, is_stuck};
+ghost use Rattle.fleet_states.specs.Groups.{Fits, IsSafe, groups_of, lacks_room};
 ghost use Rattle.down_ledger.specs.Rosters.{NobodyRests};
 ghost use Rattle.roll_core.specs.Refusals.{IsUnfit};
 ghost use Rattle.roll_core.specs.HoldRefusals.{IsUnheld};
@@ -37,7 +37,7 @@ pub(crate) fn try_hold(roster: &mut Roster<'_>, hosts: &[HostId]) -> Result<(), 
     ensures same { roster.new ≡ roster.old }
     ensures tells { MatchResult result
         (λ _. IsTrue (are_ready roster.old.statuses (host_numbers hosts.now))
-        × IsTrue (list_all (is_stuck (groups_of roster.old.fleet) roster.old.statuses) (host_numbers hosts.now)))
+        × IsTrue (list_all (lacks_room (groups_of roster.old.fleet) roster.old.statuses) (host_numbers hosts.now)))
         (IsUnheld (groups_of roster.old.fleet) roster.old.statuses (host_numbers hosts.now)) }
 {
     match roster.test_ready(hosts) {

@@ -2,16 +2,16 @@
 use Rattle.std.proofs.Common.{◌≡◌, ℕ, Bool, true, false, cond, Option, None, List, [], ◌∷◌, ◌++◌, length, refl, sym, ap, ◌∙◌, subst, append_assoc}
 use Rattle.std.specs.List.{list_all}
 use Rattle.std.proofs.lemmas.List.{append-nil}
-use Rattle.fleet_numbers.specs.NumberLists.{has_number}
+use Rattle.fleet_index.specs.NumberLists.{has_number}
 use Rattle.fleet_states.specs.declared.status.Status.{Status}
 use Rattle.fleet_states.specs.Statuses.{status_at}
 use Rattle.host_track.specs.Tracks.{Entry, track}
 use Rattle.fleet_states.specs.Batches.{failed_in, halt, statuses_after}
 use Rattle.batch_plan.specs.Places.{AreSameBut}
-use Rattle.play_course.specs.declared.boundary.Boundary.{Boundary}
-use Rattle.play_course.specs.declared.end.End.{End}
-use Rattle.play_course.specs.Courses.{IsCourse, Setting, end_behind, end_here, end_with, ended_by, halt_of, led_to, next_batch}
-use Rattle.play_course.proofs.SameLemmas.{ended_by-push, led_to-push, one_boundary_more}
+use Rattle.play_forecast.specs.declared.boundary.Boundary.{Boundary}
+use Rattle.play_forecast.specs.declared.end.End.{End}
+use Rattle.play_forecast.specs.Courses.{IsCourse, Setting, end_behind, end_here, end_with, ended_by, halt_of, led_to, next_batch}
+use Rattle.play_forecast.proofs.SameLemmas.{ended_by-push, led_to-push, one_boundary_more}
 use Rattle.event_log.specs.Events.{Event, opened, closed, is_inside}
 use Rattle.event_log.specs.States.{Phase, State, between, ended, failures, start_state}
 use Rattle.event_log.specs.Logs.{IsLegal, closed_state, next}

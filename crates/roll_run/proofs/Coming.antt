@@ -8,10 +8,10 @@ use Rattle.batch_plan.specs.Holding as holding
 use Rattle.play_model.specs.declared.play.Play.{Play}
 use Rattle.play_model.specs.declared.size.Size.{Size}
 use Rattle.play_model.specs.Sizes.{bound, cap}
-use Rattle.play_course.specs.PlayPlans.{aside_by, targets}
-use Rattle.play_course.specs.declared.boundary.Boundary.{Boundary}
-use Rattle.play_course.specs.declared.end.End.{End}
-use Rattle.play_course.specs.Courses.{led_to}
+use Rattle.play_forecast.specs.PlayPlans.{aside_by, targets}
+use Rattle.play_forecast.specs.declared.boundary.Boundary.{Boundary}
+use Rattle.play_forecast.specs.declared.end.End.{End}
+use Rattle.play_forecast.specs.Courses.{led_to}
 use Rattle.event_log.specs.Columns.{Columns, Tells}
 use Rattle.event_log.proofs.GrowthLaws.{beginnings_tell}
 use Rattle.roll_core.specs.Views.{KernelView, roll_of, state_of}

@@ -9,13 +9,13 @@ use Rattle.fleet_states.specs.Groups.{IsSafe, groups_of}
 use Rattle.host_track.specs.Tracks.{counts_in}
 use Rattle.host_track.specs.Endings.{Ending}
 use Rattle.host_track.specs.declared.counts.Counts.{Counts}
-use Rattle.play_course.specs.declared.boundary.Boundary.{Boundary}
-use Rattle.play_course.specs.declared.end.End.{End}
+use Rattle.play_forecast.specs.declared.boundary.Boundary.{Boundary}
+use Rattle.play_forecast.specs.declared.end.End.{End}
 use Rattle.domains.specs.Ids.{host_numbers}
-use Rattle.play_course.specs.PlayPlans.{aside_by}
-use Rattle.play_course.specs.Laws.{opened_batches}
-use Rattle.play_course.specs.Courses.{IsCourse, end_here, led_to, next_batch}
-use Rattle.play_course.proofs.SameLemmas.{one_boundary_more}
+use Rattle.play_forecast.specs.PlayPlans.{aside_by}
+use Rattle.play_forecast.specs.Laws.{opened_batches}
+use Rattle.play_forecast.specs.Courses.{IsCourse, end_here, led_to, next_batch}
+use Rattle.play_forecast.proofs.SameLemmas.{one_boundary_more}
 use Rattle.event_log.specs.Rolls.{Roll}
 use Rattle.event_log.specs.Events.{Event, opened}
 use Rattle.event_log.specs.States.{start_state}

@@ -12,12 +12,12 @@ use Rattle.host_track.proofs.SummaryLemmas.{kept_known}
 use Rattle.batch_plan.specs.Beginnings.{restart_statuses}
 use Rattle.event_log.specs.Works.{known_at}
 use Rattle.play_model.specs.declared.play.Play.{Play}
-use Rattle.play_course.specs.PlayPlans.{targets}
-use Rattle.play_course.specs.declared.boundary.Boundary.{Boundary}
-use Rattle.play_course.specs.declared.end.End.{End}
-use Rattle.play_course.specs.declared.end.End.TheVariants.{Finished, Held, Blocked, TooManyFailed, AllFailed}
-use Rattle.play_course.specs.Courses.{IsCourse}
-use Rattle.play_course.specs.Files.{AreCourses, AreLaterCourses, Course, GoesOn, last_statuses}
+use Rattle.play_forecast.specs.PlayPlans.{targets}
+use Rattle.play_forecast.specs.declared.boundary.Boundary.{Boundary}
+use Rattle.play_forecast.specs.declared.end.End.{End}
+use Rattle.play_forecast.specs.declared.end.End.TheVariants.{Finished, Held, Blocked, TooManyFailed, AllFailed}
+use Rattle.play_forecast.specs.Courses.{IsCourse}
+use Rattle.play_forecast.specs.Files.{AreCourses, AreLaterCourses, Course, GoesOn, last_statuses}
 use Rattle.event_log.specs.Columns.{Columns, Tells}
 use Rattle.event_log.specs.Events.{Event}
 use Rattle.event_log.specs.Logs.{end_state}

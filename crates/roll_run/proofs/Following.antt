@@ -14,9 +14,9 @@ use Rattle.fleet_states.specs.Statuses.{NobodyRuns}
 use Rattle.host_vars.specs.declared.vars.Vars.{Vars}
 use Rattle.host_track.specs.Endings.{Ending}
 use Rattle.play_model.specs.declared.play.Play.{Play}
-use Rattle.play_course.specs.PlayPlans.{named_parts, parts_of_play}
-use Rattle.play_course.specs.declared.end.End.{End}
-use Rattle.play_course.specs.declared.end.End.TheVariants.{Finished, Held, Blocked, TooManyFailed, AllFailed}
+use Rattle.play_forecast.specs.PlayPlans.{named_parts, parts_of_play}
+use Rattle.play_forecast.specs.declared.end.End.{End}
+use Rattle.play_forecast.specs.declared.end.End.TheVariants.{Finished, Held, Blocked, TooManyFailed, AllFailed}
 use Rattle.event_log.specs.Rolls.{Roll}
 use Rattle.event_log.specs.Events.{Event}
 use Rattle.event_log.specs.States.{State, start_state}

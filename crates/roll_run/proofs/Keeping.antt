@@ -7,7 +7,7 @@ use Rattle.std.proofs.lemmas.List.{append-nil}
 use Rattle.domains.specs.FleetViews.{FleetView}
 use Rattle.fleet_states.specs.declared.status.Status.{Status}
 use Rattle.fleet_states.specs.Groups.{groups_of}
-use Rattle.play_course.specs.declared.end.End.{End}
+use Rattle.play_forecast.specs.declared.end.End.{End}
 use Rattle.event_log.specs.Rolls.{Roll}
 use Rattle.event_log.specs.Events.{Event, set_aside, opened, claimed, reported, passed, closed, is_inside}
 use Rattle.event_log.specs.States.{State, start_state}

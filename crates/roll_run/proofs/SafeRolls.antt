@@ -6,7 +6,7 @@ use Rattle.host_vars.specs.declared.vars.Vars.{Vars}
 use Rattle.host_track.specs.Endings.{Ending}
 use Rattle.batch_plan.specs.Beginnings.{restart_statuses}
 use Rattle.play_model.specs.declared.play.Play.{Play}
-use Rattle.play_course.specs.PlayPlans.{targets}
+use Rattle.play_forecast.specs.PlayPlans.{targets}
 use Rattle.event_log.specs.Events.{Event}
 use Rattle.event_log.specs.Rolls.{Roll}
 use Rattle.event_log.specs.Told.{Work}

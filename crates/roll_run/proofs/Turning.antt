@@ -19,10 +19,10 @@ use Rattle.batch_plan.specs.Places.{AreCountsOf, AreSameBut, told_places}
 use Rattle.batch_plan.specs.Plans.{IsPlan}
 use Rattle.batch_plan.proofs.FollowLemmas.{counts_follow}
 use Rattle.fleet_states.specs.Groups.{groups_of}
-use Rattle.fleet_numbers.specs.NumberLists.{list_at}
-use Rattle.play_course.specs.declared.boundary.Boundary.{Boundary}
-use Rattle.play_course.specs.declared.end.End.{End}
-use Rattle.play_course.specs.Courses.{end_at_rest, end_here, end_with, end_without_batch, next_batch}
+use Rattle.fleet_index.specs.NumberLists.{list_at}
+use Rattle.play_forecast.specs.declared.boundary.Boundary.{Boundary}
+use Rattle.play_forecast.specs.declared.end.End.{End}
+use Rattle.play_forecast.specs.Courses.{end_at_rest, end_here, end_with, end_without_batch, next_batch}
 use Rattle.event_log.specs.Events.{opened, closed}
 use Rattle.event_log.specs.States.{Phase, State, between, working, ended, failures, start_state}
 use Rattle.event_log.specs.Logs.{IsLegal}

@@ -5,8 +5,8 @@ use Rattle.fleet_states.specs.declared.status.Status.{Status}
 use Rattle.host_vars.specs.declared.vars.Vars.{Vars}
 use Rattle.batch_plan.specs.Beginnings.{restart_statuses}
 use Rattle.play_model.specs.declared.play.Play.{Play}
-use Rattle.play_course.specs.PlayPlans.{targets}
-use Rattle.play_course.specs.Files.{Course, PlaySetting}
+use Rattle.play_forecast.specs.PlayPlans.{targets}
+use Rattle.play_forecast.specs.Files.{Course, PlaySetting}
 use Rattle.event_log.specs.Events.{Event}
 use Rattle.event_log.specs.Rolls.{Roll}
 use Rattle.event_log.specs.Columns.{Columns, Tells}

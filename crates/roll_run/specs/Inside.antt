@@ -10,11 +10,11 @@ use Rattle.batch_plan.specs.Holding as holding
 use Rattle.batch_plan.specs.Places.{AreCountsOf}
 use Rattle.host_track.specs.Endings.{Ending}
 use Rattle.play_model.specs.declared.play.Play.{Play}
-use Rattle.play_course.specs.PlayPlans.{aside_by}
-use Rattle.play_course.specs.declared.boundary.Boundary.{Boundary}
-use Rattle.play_course.specs.declared.end.End.{End}
-use Rattle.play_course.specs.declared.end.End.TheVariants.{Finished, Held, Blocked, TooManyFailed, AllFailed}
-use Rattle.play_course.specs.Courses.{IsBoundary, IsCourse, Setting, ended_by, led_to}
+use Rattle.play_forecast.specs.PlayPlans.{aside_by}
+use Rattle.play_forecast.specs.declared.boundary.Boundary.{Boundary}
+use Rattle.play_forecast.specs.declared.end.End.{End}
+use Rattle.play_forecast.specs.declared.end.End.TheVariants.{Finished, Held, Blocked, TooManyFailed, AllFailed}
+use Rattle.play_forecast.specs.Courses.{IsBoundary, IsCourse, Setting, ended_by, led_to}
 use Rattle.event_log.specs.Events.{Event, set_aside, opened, claimed, reported, passed, closed, is_inside}
 use Rattle.event_log.specs.States.{Phase, between, working, ended}
 use Rattle.event_log.specs.Columns.{Columns, Tells}

@@ -3,7 +3,7 @@ use Rattle.std.specs.Prelude.{◌≡◌, ◌⊎◌, ℕ, Option, Some, None, Lis
 use Rattle.domains.specs.FleetViews.{FleetView}
 use Rattle.fleet_states.specs.declared.status.Status.{Status}
 use Rattle.fleet_states.specs.Groups.{groups_of}
-use Rattle.play_course.specs.declared.end.End.{End}
+use Rattle.play_forecast.specs.declared.end.End.{End}
 use Rattle.event_log.specs.Rolls.{Roll}
 use Rattle.event_log.specs.Events.{Event, set_aside, opened, claimed, reported, passed, closed}
 use Rattle.event_log.specs.States.{State, start_state}

@@ -5,7 +5,7 @@ use Rattle.fleet_states.specs.declared.status.Status.{Status}
 use Rattle.host_vars.specs.declared.vars.Vars.{Vars}
 use Rattle.host_track.specs.Endings.{Ending}
 use Rattle.play_model.specs.declared.play.Play.{Play}
-use Rattle.play_course.specs.Files.{AreCourses}
+use Rattle.play_forecast.specs.Files.{AreCourses}
 use Rattle.event_log.specs.Columns.{Columns}
 use Rattle.event_log.specs.Events.{Event}
 use Rattle.event_log.specs.Logs.{end_state}

@@ -7,9 +7,9 @@ use Rattle.host_vars.specs.HostVars.{IsSameHost}
 use Rattle.host_track.specs.Endings.{Ending}
 use Rattle.batch_plan.specs.Beginnings.{IsReady, restart_statuses}
 use Rattle.play_model.specs.declared.play.Play.{Play}
-use Rattle.play_course.specs.PlayPlans.{targets}
-use Rattle.play_course.specs.declared.end.End.{End}
-use Rattle.play_course.specs.declared.end.End.TheVariants.{Finished}
+use Rattle.play_forecast.specs.PlayPlans.{targets}
+use Rattle.play_forecast.specs.declared.end.End.{End}
+use Rattle.play_forecast.specs.declared.end.End.TheVariants.{Finished}
 use Rattle.event_log.specs.Events.{Event}
 use Rattle.event_log.specs.Logs.{end_state}
 use Rattle.event_log.specs.Rolls.{Roll}

@@ -1,6 +1,6 @@
 -- What a run of a play leaves: it took the course that its hosts by themselves say.
 use Rattle.std.specs.Prelude.{◌≡◌, ℕ, ◌+◌, ◌≤◌, ◌<◌, ◌⊎◌, Bool, true, false, cond, Option, Some, None, List, [], ◌∷◌, ◌++◌, filter, flat_map, length, slice_index_or}
-use Rattle.fleet_numbers.specs.NumberLists.{has_number}
+use Rattle.fleet_index.specs.NumberLists.{has_number}
 use Rattle.domains.specs.FleetViews.{FleetView}
 use Rattle.domains.specs.Ids.{host_numbers}
 use Rattle.fleet_states.specs.declared.status.Status.{Status}
@@ -10,11 +10,11 @@ use Rattle.host_track.specs.Endings.{Ending}
 use Rattle.host_track.specs.declared.counts.Counts.{Counts}
 use Rattle.play_model.specs.declared.play.Play.{Play}
 use Rattle.play_model.specs.Sizes.{cap}
-use Rattle.play_course.specs.PlayPlans.{aside_by, targets}
-use Rattle.play_course.specs.declared.boundary.Boundary.{Boundary}
-use Rattle.play_course.specs.declared.end.End.{End}
-use Rattle.play_course.specs.Courses.{IsCourse, Setting, led_to, next_batch}
-use Rattle.play_course.specs.Laws.{opened_batches}
+use Rattle.play_forecast.specs.PlayPlans.{aside_by, targets}
+use Rattle.play_forecast.specs.declared.boundary.Boundary.{Boundary}
+use Rattle.play_forecast.specs.declared.end.End.{End}
+use Rattle.play_forecast.specs.Courses.{IsCourse, Setting, led_to, next_batch}
+use Rattle.play_forecast.specs.Laws.{opened_batches}
 use Rattle.host_track.specs.Tracks.{Entry, counts_in, track}
 use Rattle.event_log.specs.Works.{known_at}
 use Rattle.event_log.specs.Rolls.{Roll}

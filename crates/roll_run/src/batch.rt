@@ -8,19 +8,19 @@ ghost use Rattle.event_log.specs.States.{between};
 ghost use Rattle.roll_run.specs.Runs.{IsBreakIn, IsFaultIn, MayBreak};
 ghost use Rattle.roll_run.specs.declared.fault.Break.TheVariants.{Asked, Unkept};
 
-use crate::attend::Attend;
 use crate::coordinator::Coordinator;
 use crate::fault::Break;
-use crate::keep::Keep;
+use crate::recorder::Recorder;
+use crate::stop_control::StopControl;
 use fork_pool::{Front, StepFault};
 use group_tree::HostId;
-use roll_core::{Board, Next, Runner, Watch};
+use roll_core::{Board, Next, Observer, Runner};
 use std::alloc::Global;
 use std::sync::Wait;
 use std::sync::ledger::Ledger;
 
 /// Works on the present step of the open batch, and passes it.
-fn pass_step<'f, 'b, R: Runner, L: Ledger, H: Wait, W: Watch>(
+fn pass_step<'f, 'b, R: Runner, L: Ledger, H: Wait, W: Observer>(
     rt: &H,
     alloc: Global,
     front: &mut Front<'f, R>,
@@ -46,7 +46,7 @@ where
 }
 
 /// Works on the steps of the open batch, one after the other, until it is over.
-fn pass_steps<'f, 'b, R: Runner, L: Ledger, H: Wait, W: Watch>(
+fn pass_steps<'f, 'b, R: Runner, L: Ledger, H: Wait, W: Observer>(
     rt: &H,
     alloc: Global,
     front: &mut Front<'f, R>,
@@ -74,7 +74,7 @@ where
 }
 
 /// Opens a batch, and works on it until it is over. Where it isn't opened, nothing has changed.
-fn work_off<'f, 'b, R: Runner, L: Ledger, H: Wait, W: Watch>(
+fn work_off<'f, 'b, R: Runner, L: Ledger, H: Wait, W: Observer>(
     rt: &H,
     alloc: Global,
     front: &mut Front<'f, R>,
@@ -99,7 +99,16 @@ where
 
 /// Opens a batch where whoever attends the run lets it go on and the keeper holds it, and works on it until it is over. Where it isn't opened, nothing has
 /// changed but what is kept.
-pub(crate) fn run_batch<'f, 'b, R: Runner, L: Ledger, H: Wait, A: Attend, W: Watch, K: Keep>(
+pub(crate) fn run_batch<
+    'f,
+    'b,
+    R: Runner,
+    L: Ledger,
+    H: Wait,
+    A: StopControl,
+    W: Observer,
+    K: Recorder,
+>(
     coordinator: &Coordinator<'_, H, A>,
     keeper: &mut K,
     front: &mut Front<'f, R>,

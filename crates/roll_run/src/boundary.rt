@@ -5,23 +5,23 @@ ghost use Rattle.fleet_states.specs.Statuses.{status_at};
 ghost use Rattle.batch_plan.specs.Counts.{moved};
 ghost use Rattle.batch_plan.specs.Places.{AreCountsOf, told_places};
 ghost use Rattle.batch_plan.specs.Places as places;
-ghost use Rattle.play_course.specs.declared.end.End.{End};
-ghost use Rattle.play_course.specs.PlayPlans.{aside_by, targets};
+ghost use Rattle.play_forecast.specs.declared.end.End.{End};
+ghost use Rattle.play_forecast.specs.PlayPlans.{aside_by, targets};
 ghost use Rattle.roll_core.specs.Views.{state_of};
 ghost use Rattle.roll_run.specs.Inside.{HasSetAside, HasSetOut, IsBetween, IsNoted, KeepsUp};
 
-use crate::keep::Keep;
+use crate::recorder::Recorder;
 use batch_plan::{Domains, place_of};
 use fleet_states::{Status, status_of};
 use group_tree::HostId;
-use play_course::{Boundary, list_aside_over};
-use roll_core::{Board, Runner, Watch};
+use play_forecast::{Boundary, list_aside_over};
+use roll_core::{Board, Observer, Runner};
 use std::alloc::{AllocError, Allocator, Global};
 use std::sync::ledger::Ledger;
 
 /// Counts a host as its status says; a number that no host has is passed over.
 #[tactic(auto, using(crate::proofs::Counting::moved_past))]
-fn tell_one<A: Allocator>(domains: &mut Domains<'_, A>, statuses: &[Status], host: HostId)
+fn record_one<A: Allocator>(domains: &mut Domains<'_, A>, statuses: &[Status], host: HostId)
     requires placed { length domains.old.places ≡ length domains.old.fleet.hosts }
     ensures { domains.new ≡ moved domains.old host.index (places.place_of (status_at statuses.now host.index)) }
 {
@@ -41,12 +41,12 @@ pub(crate) fn tell<A: Allocator>(
     ensures { domains.new ≡ told_places (host_numbers hosts.now) statuses.now domains.old }
 {
     for place in 0..hosts.len() {
-        tell_one(domains, statuses, hosts[place]);
+        record_one(domains, statuses, hosts[place]);
     }
 }
 
 /// Sets these hosts aside, counts them so, and has that kept. Want of memory leaves everything as it was.
-fn hold<A: Allocator, R: Runner, L: Ledger, W: Watch, K: Keep>(
+fn hold<A: Allocator, R: Runner, L: Ledger, W: Observer, K: Recorder>(
     alloc: Global,
     keeper: &mut K,
     board: &mut Board<'_, R, L, W>,
@@ -72,7 +72,7 @@ fn hold<A: Allocator, R: Runner, L: Ledger, W: Watch, K: Keep>(
 }
 
 /// The same, where any are to be set aside.
-fn set_aside<A: Allocator, R: Runner, L: Ledger, W: Watch, K: Keep>(
+fn set_aside<A: Allocator, R: Runner, L: Ledger, W: Observer, K: Recorder>(
     alloc: Global,
     keeper: &mut K,
     board: &mut Board<'_, R, L, W>,
@@ -101,7 +101,7 @@ fn count(boundaries: &[Boundary]) -> u32
 
 /// Comes to the next boundary: hosts are set aside where they are not to stop the play, and the rest is planned anew over the counts
 /// that stand. Who was set aside is kept. Want of memory adds no boundary.
-pub(crate) fn come_to_boundary<A: Allocator, R: Runner, L: Ledger, W: Watch, K: Keep>(
+pub(crate) fn come_to_boundary<A: Allocator, R: Runner, L: Ledger, W: Observer, K: Recorder>(
     alloc: Global,
     keeper: &mut K,
     board: &mut Board<'_, R, L, W>,

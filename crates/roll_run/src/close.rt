@@ -2,7 +2,7 @@
 ghost use Rattle.std.specs.Prelude.{◌≡◌, length, true};
 ghost use Rattle.domains.specs.Ids.{host_numbers};
 ghost use Rattle.batch_plan.specs.Places.{told_places};
-ghost use Rattle.play_course.specs.Courses.{end_with};
+ghost use Rattle.play_forecast.specs.Courses.{end_with};
 ghost use Rattle.event_log.specs.Events.{closed};
 ghost use Rattle.event_log.specs.Logs.{IsLegal};
 ghost use Rattle.event_log.specs.States.{ended, failures, start_state};
@@ -13,16 +13,16 @@ ghost use Rattle.roll_core.specs.Tellings.{halt_in};
 ghost use Rattle.roll_run.specs.Journals.{closing};
 
 use crate::boundary::tell;
-use crate::keep::Keep;
+use crate::recorder::Recorder;
 use batch_plan::Domains;
 use group_tree::HostId;
-use play_course::{End, end_with};
-use roll_core::{Board, Runner, Watch, halt_of};
+use play_forecast::{End, end_with};
+use roll_core::{Board, Observer, Runner, halt_of};
 use std::alloc::Allocator;
 use std::sync::ledger::Ledger;
 
 /// Closes a batch that is over, counts its hosts as they are now, has that kept, and tells whether it ended the play, and how.
-pub(crate) fn close_batch<A: Allocator, R: Runner, L: Ledger, W: Watch, K: Keep>(
+pub(crate) fn close_batch<A: Allocator, R: Runner, L: Ledger, W: Observer, K: Recorder>(
     keeper: &mut K,
     board: &mut Board<'_, R, L, W>,
     domains: &mut Domains<'_, A>,

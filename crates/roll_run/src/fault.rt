@@ -6,7 +6,7 @@ use crate::run::Run;
 use fleet_states::Status;
 use fork_pool::StepFault;
 use host_track::Counts;
-use play_course::Boundary;
+use play_forecast::Boundary;
 use std::alloc::Global;
 
 /// Why a run was broken off.

@@ -2,7 +2,7 @@
 ghost use Rattle.std.specs.Prelude.{◌≡◌, ◌≤◌, ◌++◌, ◌∷◌, ◌<◌, [], IfOk, None, find, length, vec_capacity, vec_len};
 ghost use Rattle.domains.specs.Patterns.{names_nothing};
 ghost use Rattle.batch_plan.specs.Beginnings.{IsReady, restart_statuses};
-ghost use Rattle.play_course.specs.PlayPlans.{parts_of_play, targets};
+ghost use Rattle.play_forecast.specs.PlayPlans.{parts_of_play, targets};
 ghost use Rattle.roll_run.specs.Plays.{AreSameHosts};
 
 use crate::run::Run;

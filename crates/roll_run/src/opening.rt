@@ -1,7 +1,7 @@
 //! A run begins, and what it leaves.
 ghost use Rattle.std.specs.Prelude.{◌≡◌, ◌++◌, ◌∷◌, [], Err, IfErr, IfOk, None, Ok, OnErr, Some, count_by, find, length};
 ghost use Rattle.domains.specs.Patterns.{names_nothing};
-ghost use Rattle.play_course.specs.PlayPlans.{parts_of_play, targets};
+ghost use Rattle.play_forecast.specs.PlayPlans.{parts_of_play, targets};
 ghost use Rattle.roll_core.specs.Views.{event_of, roll_of};
 ghost use Rattle.roll_run.specs.Inside.{HasGone, opens};
 ghost use Rattle.roll_run.specs.Histories.{Gains};
@@ -9,21 +9,21 @@ ghost use Rattle.roll_run.specs.Journals.{AreKept, AreKeptAhead, ended};
 ghost use Rattle.roll_run.specs.Plays.{IsOneBrokenOff, IsRunOf, MayStart};
 ghost use Rattle.roll_run.specs.Runs.{IsBrokenOff, IsRun, MayBreak, roll_by};
 
-use crate::attend::Attend;
 use crate::coordinator::Coordinator;
 use crate::fault::{Break, RunFault};
-use crate::keep::Keep;
+use crate::recorder::Recorder;
 use crate::run::Run;
 use crate::setup::Setup;
 use crate::start::Start;
-use crate::turns::go_on;
+use crate::stop_control::StopControl;
+use crate::turns::resume;
 use batch_plan::counted;
 use bumpalo::Bump;
 use domains::Fleet;
 use fork_pool::Front;
-use play_course::{Boundary, End};
+use play_forecast::{Boundary, End};
 use play_model::Play;
-use roll_core::{Board, Event, History, Runner, Watch};
+use roll_core::{Board, Event, History, Observer, Runner};
 use std::alloc::{AllocError, Global};
 use std::sync::Wait;
 use std::sync::ledger::{Blank, Ledger};
@@ -42,7 +42,7 @@ fn count_opened(log: &[Event]) -> usize
 }
 
 /// What is left of a run that came to its end, or that a fault broke off; and the history with its log.
-fn leave<R: Runner, L: Ledger, W: Watch>(
+fn leave<R: Runner, L: Ledger, W: Observer>(
     board: Board<'_, R, L, W>,
     boundaries: Vec<Boundary>,
     gone: Result<End, Break>,
@@ -92,7 +92,7 @@ fn count_targets(alloc: Global, fleet: &Fleet, play: &Play) -> Result<u32, Alloc
 }
 
 /// Has the end of the play kept, where it has one.
-fn keep_end<K: Keep>(keeper: &mut K, fleet: &Fleet, gone: &Result<End, Break>)
+fn keep_end<K: Recorder>(keeper: &mut K, fleet: &Fleet, gone: &Result<End, Break>)
     ensures ok { IfOk gone.now (λ end. K.keeps keeper.old keeper.new fleet.now (ended end)) }
     ensures err { OnErr gone.now (keeper.new ≡ keeper.old) }
 {
@@ -105,7 +105,17 @@ fn keep_end<K: Keep>(keeper: &mut K, fleet: &Fleet, gone: &Result<End, Break>)
 /// A run of the play with the workers of a pool, from its beginning on kept. The counts of the fleet stay in an arena of the coordinator's own. Where memory is wanting before there
 /// is a board, the history comes back as it was.
 #[allow(clippy::too_many_arguments)]
-pub(crate) fn run_on<'f, 'b, 'w, R: Runner, L: Ledger, H: Wait, A: Attend, W: Watch, K: Keep>(
+pub(crate) fn run_on<
+    'f,
+    'b,
+    'w,
+    R: Runner,
+    L: Ledger,
+    H: Wait,
+    A: StopControl,
+    W: Observer,
+    K: Recorder,
+>(
     coordinator: &Coordinator<'_, H, A>,
     watch: &'w mut W,
     keeper: &mut K,
@@ -160,7 +170,7 @@ where
     };
     keeper.begins(fleet, statuses);
     let mut boundaries = Vec::new(alloc);
-    let (gone, board) = go_on(
+    let (gone, board) = resume(
         coordinator,
         keeper,
         front,

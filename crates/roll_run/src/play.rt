@@ -1,23 +1,23 @@
 //! A run of one play.
 ghost use Rattle.std.specs.Prelude.{◌≡◌, ◌<◌, ◌≤◌, ◌∷◌, [], IfErr, IfOk, None, Some, find};
 ghost use Rattle.domains.specs.Patterns.{names_nothing};
-ghost use Rattle.play_course.specs.PlayPlans.{parts_of_play};
+ghost use Rattle.play_forecast.specs.PlayPlans.{parts_of_play};
 ghost use Rattle.roll_run.specs.Histories.{Gains};
 ghost use Rattle.roll_run.specs.Journals.{AreKept, AreKeptAhead};
 ghost use Rattle.roll_run.specs.Plays.{IsBrokenOrNotBegun, IsRunOf, MayStart};
 ghost use Rattle.roll_run.specs.Runs.{MayBreak, roll_by};
 
-use crate::attend::Attend;
 use crate::coordinator::Coordinator;
 use crate::fault::RunFault;
-use crate::keep::Keep;
 use crate::pool::run_plays;
+use crate::recorder::Recorder;
 use crate::run::Run;
 use crate::setup::Setup;
 use crate::start::Start;
+use crate::stop_control::StopControl;
 use domains::Fleet;
 use play_model::Play;
-use roll_core::{History, Runner, Watch};
+use roll_core::{History, Observer, Runner};
 use std::process::{Processes, SystemProcess};
 use std::slice;
 use std::sync::Wait;
@@ -31,9 +31,9 @@ use std::thread::Threads;
 pub fn run_play<
     R: Runner,
     H: Threads + Wait + Processes<Started = SystemProcess> + Sync,
-    A: Attend,
-    W: Watch,
-    K: Keep,
+    A: StopControl,
+    W: Observer,
+    K: Recorder,
 >(
     coordinator: &Coordinator<'_, H, A>,
     watch: &mut W,

@@ -1,27 +1,27 @@
 //! The runs of several plays on one pool.
 ghost use Rattle.std.specs.Prelude.{◌≡◌, ◌+◌, ◌<◌, ◌≤◌, ◌++◌, ◌∷◌, [], List, IfErr, IfOk, None, OnOk, Some, find, length, map, vec_capacity, vec_len};
 ghost use Rattle.domains.specs.Patterns.{names_nothing};
-ghost use Rattle.play_course.specs.PlayPlans.{parts_of_play};
+ghost use Rattle.play_forecast.specs.PlayPlans.{parts_of_play};
 ghost use Rattle.roll_run.specs.Histories.{Gains};
 ghost use Rattle.roll_run.specs.Inside.{HasBrokenAfter, HasRunAfter, IsReadyRun, is_finished};
 ghost use Rattle.roll_run.specs.Journals.{AreKept, AreKeptAhead, IsKeptAfter, IsKeptAheadAfter, ends_of};
 ghost use Rattle.roll_run.specs.Plays.{AreBroken, AreRuns, IsBrokenOrNotBegun, IsRunOf, MayStart};
 ghost use Rattle.roll_run.specs.Runs.{MayBreak, roll_by};
 
-use crate::attend::Attend;
 use crate::coordinator::Coordinator;
 use crate::fault::{RunFault, RunsFault};
-use crate::keep::Keep;
 use crate::next::{begin_after, copy_into, keep};
 use crate::opening::run_on;
+use crate::recorder::Recorder;
 use crate::run::Run;
 use crate::setup::Setup;
 use crate::start::Start;
+use crate::stop_control::StopControl;
 use fleet_states::Status;
 use fork_pool::Front;
-use play_course::End;
+use play_forecast::End;
 use play_model::Play;
-use roll_core::{History, Runner, Watch};
+use roll_core::{History, Observer, Runner};
 use std::alloc::{AllocError, Global};
 use std::marker::Brand;
 use std::sync::Wait;
@@ -29,7 +29,7 @@ use std::sync::ledger::Blank;
 
 /// A run of a play on the workers of a pool, whose log is put into the history; where memory was wanting before it had one, none is.
 #[allow(clippy::too_many_arguments)]
-fn run_one<'f, R: Runner, H: Wait, A: Attend, W: Watch, K: Keep>(
+fn run_one<'f, R: Runner, H: Wait, A: StopControl, W: Observer, K: Recorder>(
     coordinator: &Coordinator<'_, H, A>,
     watch: &mut W,
     keeper: &mut K,
@@ -80,7 +80,7 @@ fn is_finished(end: End) -> bool
 /// Runs the plays after a run, each where the one before it ended, until one ends otherwise than finished, and puts that run and theirs with those that are done.
 /// `room` is for as many statuses as there are hosts, for a play that can't begin. The history has their logs then.
 #[allow(clippy::too_many_arguments)]
-fn run_later<'f, R: Runner, H: Wait, A: Attend, W: Watch, K: Keep>(
+fn run_later<'f, R: Runner, H: Wait, A: StopControl, W: Observer, K: Recorder>(
     coordinator: &Coordinator<'_, H, A>,
     watch: &mut W,
     keeper: &mut K,
@@ -167,7 +167,7 @@ fn places(alloc: Global, runs: usize, hosts: usize) -> Result<(Vec<Run>, Vec<Sta
 }
 
 /// Runs the plays, one after the other, on the workers of a pool. The history has their logs then.
-pub(crate) fn run_each<'f, R: Runner, H: Wait, A: Attend, W: Watch, K: Keep>(
+pub(crate) fn run_each<'f, R: Runner, H: Wait, A: StopControl, W: Observer, K: Recorder>(
     coordinator: &Coordinator<'_, H, A>,
     watch: &mut W,
     keeper: &mut K,

@@ -5,16 +5,16 @@ ghost use Rattle.roll_run.specs.Journals.{AreKept, AreKeptAhead, ends_of};
 ghost use Rattle.roll_run.specs.Plays.{AreBroken, AreRuns, MayStart};
 ghost use Rattle.roll_run.specs.Runs.{MayBreak};
 
-use crate::attend::Attend;
 use crate::coordinator::Coordinator;
 use crate::fault::{RunFault, RunsFault};
-use crate::keep::Keep;
 use crate::plays::run_each;
+use crate::recorder::Recorder;
 use crate::run::Run;
 use crate::setup::Setup;
 use crate::start::Start;
+use crate::stop_control::StopControl;
 use fork_pool::{Front, WorkerEnd, pool, serve};
-use roll_core::{History, Runner, Watch};
+use roll_core::{History, Observer, Runner};
 use std::process::{Processes, SystemProcess};
 use std::sync::Wait;
 use std::thread;
@@ -22,7 +22,7 @@ use std::thread::Threads;
 
 /// Runs the plays, unless a worker is missing.
 #[allow(clippy::too_many_arguments)]
-fn run_with_all<'f, R: Runner, H: Wait, A: Attend, W: Watch, K: Keep>(
+fn run_with_all<'f, R: Runner, H: Wait, A: StopControl, W: Observer, K: Recorder>(
     coordinator: &Coordinator<'_, H, A>,
     watch: &mut W,
     keeper: &mut K,
@@ -55,9 +55,9 @@ fn with_workers<
     'w,
     R: Runner,
     H: Threads + Wait + Processes<Started = SystemProcess> + Sync,
-    A: Attend,
-    W: Watch,
-    K: Keep,
+    A: StopControl,
+    W: Observer,
+    K: Recorder,
 >(
     coordinator: &Coordinator<'f, H, A>,
     watch: &'w mut W,
@@ -123,9 +123,9 @@ fn with_workers<
 pub fn run_plays<
     R: Runner,
     H: Threads + Wait + Processes<Started = SystemProcess> + Sync,
-    A: Attend,
-    W: Watch,
-    K: Keep,
+    A: StopControl,
+    W: Observer,
+    K: Recorder,
 >(
     coordinator: &Coordinator<'_, H, A>,
     watch: &mut W,

@@ -1,7 +1,7 @@
 //! What the plays of a file are run with.
 ghost use Rattle.std.specs.Prelude.{◌≡◌, ◌<◌, ◌≤◌, None, find};
 ghost use Rattle.domains.specs.Patterns.{names_nothing};
-ghost use Rattle.play_course.specs.PlayPlans.{named_parts};
+ghost use Rattle.play_forecast.specs.PlayPlans.{named_parts};
 
 use domains::Fleet;
 use play_model::Play;

@@ -1,23 +1,23 @@
 //! From boundary to boundary.
 ghost use Rattle.std.specs.Prelude.{◌≡◌, IfErr, IfOk, None, length};
 ghost use Rattle.batch_plan.specs.Places.{AreCountsOf};
-ghost use Rattle.play_course.specs.Courses as courses;
-ghost use Rattle.play_course.specs.PlayPlans.{targets};
+ghost use Rattle.play_forecast.specs.Courses as courses;
+ghost use Rattle.play_forecast.specs.PlayPlans.{targets};
 ghost use Rattle.roll_core.specs.Views.{state_of};
 ghost use Rattle.roll_run.specs.Inside.{HasGone, HasTurned, IsBetween, IsNoted, IsSameRoll, KeepsAhead, KeepsTurn, KeepsUp, MayTurn};
 ghost use Rattle.roll_run.specs.Runs.{MayBreak};
 
-use crate::attend::Attend;
 use crate::batch::run_batch;
 use crate::boundary::come_to_boundary;
 use crate::close::close_batch;
 use crate::coordinator::Coordinator;
 use crate::fault::Break;
-use crate::keep::Keep;
+use crate::recorder::Recorder;
+use crate::stop_control::StopControl;
 use batch_plan::{Answer, Domains};
 use fork_pool::{Front, StepFault};
-use play_course::{Boundary, End};
-use roll_core::{Board, Runner, Watch};
+use play_forecast::{Boundary, End};
+use roll_core::{Board, Observer, Runner};
 use std::alloc::Allocator;
 use std::sync::Wait;
 use std::sync::ledger::Ledger;
@@ -54,7 +54,17 @@ fn ahead(answer: &Answer) -> usize
 }
 
 /// Ends the play at the last boundary, or runs its batch.
-fn pass<'f, 'b, A: Allocator, R: Runner, L: Ledger, H: Wait, E: Attend, W: Watch, K: Keep>(
+fn pass<
+    'f,
+    'b,
+    A: Allocator,
+    R: Runner,
+    L: Ledger,
+    H: Wait,
+    E: StopControl,
+    W: Observer,
+    K: Recorder,
+>(
     coordinator: &Coordinator<'_, H, E>,
     keeper: &mut K,
     front: &mut Front<'f, R>,
@@ -96,7 +106,17 @@ where
 
 /// Comes to the next boundary, and ends the play there or runs its batch.
 #[allow(clippy::too_many_arguments)]
-fn move_on<'f, 'b, A: Allocator, R: Runner, L: Ledger, H: Wait, E: Attend, W: Watch, K: Keep>(
+fn move_on<
+    'f,
+    'b,
+    A: Allocator,
+    R: Runner,
+    L: Ledger,
+    H: Wait,
+    E: StopControl,
+    W: Observer,
+    K: Recorder,
+>(
     coordinator: &Coordinator<'_, H, E>,
     keeper: &mut K,
     front: &mut Front<'f, R>,
@@ -143,16 +163,16 @@ where
 }
 
 /// From the present boundary to the end of the play, or until it is broken off.
-pub(crate) fn go_on<
+pub(crate) fn resume<
     'f,
     'b,
     A: Allocator,
     R: Runner,
     L: Ledger,
     H: Wait,
-    E: Attend,
-    W: Watch,
-    K: Keep,
+    E: StopControl,
+    W: Observer,
+    K: Recorder,
 >(
     coordinator: &Coordinator<'_, H, E>,
     keeper: &mut K,

@@ -7,8 +7,8 @@ use Rattle.bounded_io.specs.Writing.{Begins, Finishes, Writes}
 use Rattle.bounded_io.specs.declared.text_writer.TextWriter.{TextWriter}
 use Rattle.bounded_io.specs.declared.write_fault.WriteFault.{WriteFault}
 use Rattle.bounded_io.proofs.WritingLemmas.{writes_none, writes_two}
-use Rattle.json_texts.specs.declared.form.Form.TheVariants.{Plain}
-use Rattle.every_fault.specs.declared.every.EveryFault.{EveryFault}
+use Rattle.json_output.specs.declared.form.Form.TheVariants.{Plain}
+use Rattle.all_faults.specs.declared.every.EveryFault.{EveryFault}
 use Rattle.rollout.specs.Endings.{MayHelp, fault_text, help_text}
 use Rattle.rollout.specs.LintFaults.{IsFaultsText, IsFound, IsTextOf, LosesFaults, LosesFound, PrintsFaults, ShowsFaults, TellsEach, WantsMemory, WritesEach, WritesTold, count_line, counted, fault_count, known_faults, more_faults, most_faults}
 use Rattle.rollout.specs.declared.commands.faults.Found.{Found}

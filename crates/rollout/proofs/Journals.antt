@@ -8,20 +8,20 @@ use Rattle.std.proofs.lemmas.List.{append_cancel_left}
 use Rattle.domains.specs.FleetViews.{FleetView}
 use Rattle.event_log.specs.Events.{Event}
 use Rattle.journal.specs.Entries.{entries_text}
-use Rattle.keeping.specs.Beginnings.{HasHead}
-use Rattle.keeping.specs.Keepings.{IsHeld, Keeps}
-use Rattle.keeping.specs.Laws.{told}
-use Rattle.keeping.specs.Resumings.{AddsAgain, told_again}
-use Rattle.keeping.specs.Taken.{IsTaken, KeepsRun}
-use Rattle.keeping.proofs.KeeperLemmas.{continuer_takes, keeper_takes}
-use Rattle.keeping.proofs.KeptLemmas.{any_run, ended_run, is_later, run_ahead}
+use Rattle.journal_writer.specs.Beginnings.{HasHead}
+use Rattle.journal_writer.specs.Keepings.{IsHeld, Keeps}
+use Rattle.journal_writer.specs.Laws.{told}
+use Rattle.journal_writer.specs.Resumings.{AddsAgain, told_again}
+use Rattle.journal_writer.specs.Taken.{IsTaken, KeepsRun}
+use Rattle.journal_writer.proofs.KeeperLemmas.{continuer_takes, keeper_takes}
+use Rattle.journal_writer.proofs.KeptLemmas.{any_run, ended_run, is_later, run_ahead}
 use Rattle.play_model.specs.declared.play.Play.{Play}
 use Rattle.roll_run.specs.Histories.{Gains}
 use Rattle.roll_run.specs.Journals.{HasKept, JournalEntry, heading}
 use Rattle.roll_run.proofs.Following.{gains_as}
-use Rattle.running.specs.Keepings.{KeepsAheadFrom, KeepsBroken, KeepsFrom, KeepsRuns}
-use Rattle.running.specs.declared.end.RunEnd.{RunEnd}
-use Rattle.running.specs.declared.fault.RunTextFault.{RunTextFault}
+use Rattle.run_command.specs.Keepings.{KeepsAheadFrom, KeepsBroken, KeepsFrom, KeepsRuns}
+use Rattle.run_command.specs.declared.end.RunEnd.{RunEnd}
+use Rattle.run_command.specs.declared.fault.RunTextFault.{RunTextFault}
 use Rattle.rollout.specs.Kept.{KeepsBegun, KeepsMended, KeepsNew, KeepsTo, OfInputsOrNothing, has_ended}
 use Rattle.rollout.specs.Systems.{Sources}
 use Rattle.rollout.specs.declared.fault.Fault.{Fault}

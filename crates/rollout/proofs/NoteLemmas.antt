@@ -5,11 +5,11 @@ use Rattle.std.specs.Io.KnownBytes.{Appends, Keeps}
 use Rattle.std.proofs.KnownBytes.{Keeps-trans}
 use Rattle.bounded_io.specs.declared.write_fault.WriteFault.{WriteFault}
 use Rattle.domains.specs.declared.pattern_fault.PatternFault.TheVariants.{NoSuchName, Memory}
-use Rattle.planning.specs.declared.fault.PlanFault.{PlanFault}
-use Rattle.planning.specs.declared.fault.PlanFault.TheVariants as planning
-use Rattle.fleet_notes.specs.Repeats.{repeat_notes}
-use Rattle.note_lines.specs.Notes.{isnt_allowed}
-use Rattle.lint_notes.specs.LintTexts.{BreaksNotes}
+use Rattle.plan_command.specs.declared.fault.PlanFault.{PlanFault}
+use Rattle.plan_command.specs.declared.fault.PlanFault.TheVariants as planning
+use Rattle.inventory_lints.specs.Repeats.{repeat_notes}
+use Rattle.lint_rules.specs.Notes.{isnt_allowed}
+use Rattle.lint_command.specs.LintTexts.{BreaksNotes}
 use Rattle.rollout.specs.LintFaults.{AreFaultless, PrintsFaults}
 use Rattle.rollout.specs.Notes.{AreNotesOn, FailsOver, IsFaultlessFor, IsRefusedSo, IsTrueOn, LosesAll, LosesNotes, SaysOf, TellsInstead, TellsLost, is_lost}
 use Rattle.rollout.specs.declared.fault.Fault.{Fault}

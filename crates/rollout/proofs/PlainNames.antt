@@ -2,7 +2,7 @@
 use Rattle.std.proofs.Common.{ℕ, List}
 use Rattle.domains.specs.FleetViews.{FleetView}
 use Rattle.journal.specs.Names.{HasPlainNames}
-use Rattle.plan_groups.proofs.PlainNames.{groups_are_plain, hosts_are_plain}
+use Rattle.plan_occupancy.proofs.PlainNames.{groups_are_plain, hosts_are_plain}
 use Rattle.rollout.specs.LimitsText.{IsFleetIn}
 
 pub names_are_plain : (text : List ℕ) (fleet : FleetView) → IsFleetIn text fleet → HasPlainNames fleet

@@ -2,7 +2,7 @@
 use Rattle.std.proofs.Common.{ℕ, Bool, List, Option, Result, Ok, Err, inr}
 use Rattle.std.specs.Prelude.{IfOk, IfErr}
 use Rattle.command_line.specs.declared.command.Source.{Source}
-use Rattle.json_texts.specs.declared.form.Form.{Form}
+use Rattle.json_output.specs.declared.form.Form.{Form}
 use Rattle.rollout.specs.Inputs.{ReadsBoth}
 use Rattle.rollout.specs.Rehearsals.{AnswersAll, EndsEarly, RehearsesInputs}
 use Rattle.rollout.specs.Systems.{Sources}

@@ -4,15 +4,15 @@ use Rattle.std.specs.Prelude.{IfOk, IfErr}
 use Rattle.host_track.specs.Endings.{Ending}
 use Rattle.event_log.specs.Events.{Event}
 use Rattle.event_log.specs.Told.{Work}
-use Rattle.json_texts.specs.declared.form.Form.{Form}
+use Rattle.json_output.specs.declared.form.Form.{Form}
 use Rattle.journal.specs.declared.fault.JournalFault.TheVariants as journal
-use Rattle.resuming.specs.Resumptions.{RefusesToBegin, RefusesToResume}
-use Rattle.resuming.specs.declared.fault.ResumeFault.{ResumeFault}
-use Rattle.resuming.specs.declared.fault.ResumeFault.TheVariants as resuming
-use Rattle.resuming.specs.declared.inputs.Resumption.{Resumption}
+use Rattle.resume_state.specs.Resumptions.{RefusesToBegin, RefusesToResume}
+use Rattle.resume_state.specs.declared.fault.ResumeFault.{ResumeFault}
+use Rattle.resume_state.specs.declared.fault.ResumeFault.TheVariants as resuming
+use Rattle.resume_state.specs.declared.inputs.Resumption.{Resumption}
 use Rattle.roll_run.specs.Histories.{Gains}
 use Rattle.roll_run.proofs.Following.{gains_as}
-use Rattle.running.specs.declared.fault.RunTextFault.TheVariants as running
+use Rattle.run_command.specs.declared.fault.RunTextFault.TheVariants as running
 use Rattle.rollout.specs.ResumeFaults.{fault_of}
 use Rattle.rollout.specs.Resumes.{BreaksRest, GoesOnBy, LacksJournal, PrintsRest}
 use Rattle.rollout.specs.Systems.{Files}

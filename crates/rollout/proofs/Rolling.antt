@@ -5,18 +5,18 @@ use Rattle.command_line.specs.declared.command.Source.{Source}
 use Rattle.host_track.specs.Endings.{Ending}
 use Rattle.event_log.specs.Events.{Event}
 use Rattle.event_log.specs.Told.{Work}
-use Rattle.json_texts.specs.declared.form.Form.{Form}
+use Rattle.json_output.specs.declared.form.Form.{Form}
 use Rattle.fork_pool.specs.declared.fault.StepFault.TheVariants as step
-use Rattle.planning.specs.declared.fault.PlanFault.{PlanFault}
-use Rattle.planning.specs.declared.fault.PlanFault.TheVariants as plan
+use Rattle.plan_command.specs.declared.fault.PlanFault.{PlanFault}
+use Rattle.plan_command.specs.declared.fault.PlanFault.TheVariants as plan
 use Rattle.roll_run.specs.declared.fault.Break.TheVariants as break
 use Rattle.roll_run.specs.Histories.{Gains}
 use Rattle.roll_run.proofs.Following.{gains_as}
-use Rattle.running.specs.RunTexts.{MayBreakText}
-use Rattle.running.specs.declared.end.RunEnd.{RunEnd}
-use Rattle.running.specs.declared.fault.RunTextFault.{RunTextFault}
-use Rattle.running.specs.declared.fault.RunTextFault.TheVariants as running
-use Rattle.rollout.specs.Inputs.{LacksInput, ReadsBoth}
+use Rattle.run_command.specs.RunTexts.{MayBreakText}
+use Rattle.run_command.specs.declared.end.RunEnd.{RunEnd}
+use Rattle.run_command.specs.declared.fault.RunTextFault.{RunTextFault}
+use Rattle.run_command.specs.declared.fault.RunTextFault.TheVariants as running
+use Rattle.rollout.specs.Inputs.{InputUnreadable, ReadsBoth}
 use Rattle.rollout.specs.PlanFaults as planning
 use Rattle.rollout.specs.RollFaults.{fault_of}
 use Rattle.rollout.specs.Rolls.{Breaks, BreaksOff, Prints, PrintsRecap, RollsInputs}
@@ -41,10 +41,10 @@ fault_in fault same = cc
 
 -- an input that can't be read stops no run
 pub never_lacking : (sources : Sources) (inventory playbook : Source) (old new : Option (List ℕ)) (fault : Fault) → fault ≡ Stopped
-    → LacksInput sources inventory playbook old new fault → ⊥
-never_lacking sources inventory playbook old new fault is lacks = never (subst (LacksInput sources inventory playbook old new) is lacks)
+    → InputUnreadable sources inventory playbook old new fault → ⊥
+never_lacking sources inventory playbook old new fault is lacks = never (subst (InputUnreadable sources inventory playbook old new) is lacks)
   where
-    never : LacksInput sources inventory playbook old new Stopped → ⊥
+    never : InputUnreadable sources inventory playbook old new Stopped → ⊥
     never (inl unreadable) = unreadable
     never (inr lacking) = lacking.unreadable
 

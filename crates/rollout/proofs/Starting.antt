@@ -7,18 +7,18 @@ use Rattle.command_line.specs.Words as words
 use Rattle.command_line.specs.declared.command.Line.{Line}
 use Rattle.command_line.specs.declared.command.Line.TheVariants as line
 use Rattle.command_line.specs.declared.command.Source.{Source}
-use Rattle.json_texts.specs.declared.form.Form.{Form}
+use Rattle.json_output.specs.declared.form.Form.{Form}
 use Rattle.host_track.specs.Endings.{Ending}
 use Rattle.event_log.specs.Events.{Event}
 use Rattle.event_log.specs.Told.{Work}
-use Rattle.resuming.specs.Resumptions.{IsMendedBeginning, RefusesToBegin}
-use Rattle.resuming.specs.declared.fault.ResumeFault.{ResumeFault}
-use Rattle.resuming.specs.declared.inputs.Resumption.{Resumption}
-use Rattle.running.specs.Beginnings.{AreSafeBehind}
-use Rattle.running.specs.RunTexts.{AreSafeIn, IsTrueFault}
-use Rattle.running.specs.declared.fault.RunTextFault.{RunTextFault}
-use Rattle.running.specs.declared.fault.RunTextFault.TheVariants as running
-use Rattle.running.proofs.SafeRecaps.{broken_recaps_are_of_safe_rolls, faults_from_are_of_safe_rolls, recaps_are_of_safe_rolls, runs_from_are_of_safe_rolls}
+use Rattle.resume_state.specs.Resumptions.{IsMendedBeginning, RefusesToBegin}
+use Rattle.resume_state.specs.declared.fault.ResumeFault.{ResumeFault}
+use Rattle.resume_state.specs.declared.inputs.Resumption.{Resumption}
+use Rattle.run_command.specs.Beginnings.{AreSafeBehind}
+use Rattle.run_command.specs.RunTexts.{AreSafeIn, IsTrueFault}
+use Rattle.run_command.specs.declared.fault.RunTextFault.{RunTextFault}
+use Rattle.run_command.specs.declared.fault.RunTextFault.TheVariants as running
+use Rattle.run_command.proofs.SafeRecaps.{broken_recaps_are_of_safe_rolls, faults_from_are_of_safe_rolls, recaps_are_of_safe_rolls, runs_from_are_of_safe_rolls}
 use Rattle.rollout.specs.Endings.{Reporting, form_of}
 use Rattle.rollout.specs.Rolls.{AreSafeFrom, BreaksOff, Rolls, RollsInputs}
 use Rattle.rollout.specs.Resumes.{AreSafeAgain, AreSafeMended, BeginsBy, BeginsMended, BreaksRest, GoesOn, GoesOnBy, IsNoneWished, IsWished, MendsInputs, ResumeWish, Resumes, ResumesInputs, RollsFrom, RollsMended, resume_wish}

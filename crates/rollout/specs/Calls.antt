@@ -1,6 +1,6 @@
 -- The command that goes on with a run.
 use Rattle.std.specs.Prelude.{◌≡◌, ℕ, nat_eq, Bool, true, false, if◌then◌else◌, Option, None, Some, List, [], ◌++◌, codes, string_bytes}
-use Rattle.aftermath.specs.declared.next.Call.{Call}
+use Rattle.run_diagnosis.specs.declared.next.Call.{Call}
 use Rattle.command_line.specs.Wishes.{Wish}
 use Rattle.command_line.specs.declared.command.Source.{Source}
 use Rattle.command_line.specs.declared.command.Source.TheVariants.{StandardInput, File}

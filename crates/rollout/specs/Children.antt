@@ -23,13 +23,13 @@ abbrev pub is_odd_digit_at : List ℕ → ℕ → Bool
 is_odd_digit_at text place = is_odd_digit_in (slice_get text place)
 
 -- the text begins with a row of ignored signals whose twelfth digit of sixteen is odd: the lowest bit of it is that of signal 17
-abbrev pub begins_ignored : List ℕ → Bool
-begins_ignored text = bytes_eq (take 9 text) (codes "\nSigIgn:\t") && is_odd_digit_at text 20
+abbrev pub starts_ignored : List ℕ → Bool
+starts_ignored text = bytes_eq (take 9 text) (codes "\nSigIgn:\t") && is_odd_digit_at text 20
 
 -- such a row begins somewhere in the text
 abbrev pub says_ignored : List ℕ → Bool
 says_ignored [] = false
-says_ignored (byte ∷ rest) = begins_ignored (byte ∷ rest) || says_ignored rest
+says_ignored (byte ∷ rest) = starts_ignored (byte ∷ rest) || says_ignored rest
 
 -- the file was read, and it says so
 pub record IsSaid (files : Files) (answer : Bool) : Type 0 where

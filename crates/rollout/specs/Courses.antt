@@ -2,10 +2,10 @@
 use Rattle.std.specs.Prelude.{◌≡◌, ◌⊎◌, ℕ, List, Option, Some, None, Result, Ok, Err}
 use Rattle.std.specs.Io.KnownBytes.{Keeps}
 use Rattle.command_line.specs.declared.command.Source.{Source}
-use Rattle.planning.specs.declared.fault.PlanFault.{PlanFault}
-use Rattle.rehearsing.specs.CourseTexts.{IsTrueCourseFault, WritesCourse}
-use Rattle.rehearsing.specs.declared.course_end.CourseEnd.{CourseEnd}
-use Rattle.rollout.specs.Inputs.{LacksInput, ReadsBoth}
+use Rattle.plan_command.specs.declared.fault.PlanFault.{PlanFault}
+use Rattle.rehearse.specs.CourseTexts.{IsTrueCourseFault, WritesCourse}
+use Rattle.rehearse.specs.declared.course_end.CourseEnd.{CourseEnd}
+use Rattle.rollout.specs.Inputs.{InputUnreadable, ReadsBoth}
 use Rattle.rollout.specs.PlanFaults.{fault_of}
 use Rattle.rollout.specs.Plans.{Plans}
 use Rattle.rollout.specs.Status.{status_of_course}
@@ -44,7 +44,7 @@ abbrev pub Foresees : Sources → Source → Source → List ℕ → Option (Lis
 Foresees sources inventory playbook failing input_old input_new out_old out_new (Ok status) =
     ShowsCourse sources inventory playbook failing input_old input_new out_old out_new status
 Foresees sources inventory playbook failing input_old input_new out_old out_new (Err fault) =
-    (LacksInput sources inventory playbook input_old input_new fault × Keeps out_old out_new)
+    (InputUnreadable sources inventory playbook input_old input_new fault × Keeps out_old out_new)
     ⊎ RefusesCourse sources inventory playbook failing input_old input_new out_old out_new fault
 
 -- the command `plan`: the plan of the first play, or the course of all where one is asked for

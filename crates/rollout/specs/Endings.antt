@@ -5,8 +5,8 @@ use Rattle.bounded_io.specs.Sending.{SendsText}
 use Rattle.bounded_io.specs.declared.write_fault.WriteFault.{WriteFault}
 use Rattle.rollout.specs.FaultLines.{line_text}
 use Rattle.hints.specs.Lines.{IsHelp}
-use Rattle.json_texts.specs.declared.form.Form.{Form}
-use Rattle.json_texts.specs.declared.form.Form.TheVariants.{Plain, Json}
+use Rattle.json_output.specs.declared.form.Form.{Form}
+use Rattle.json_output.specs.declared.form.Form.TheVariants.{Plain, Json}
 use Rattle.rollout.specs.Explanations.{explanation_in}
 use Rattle.rollout.specs.FaultRows.{number_of, row_of}
 use Rattle.rollout.specs.declared.ending.Reporting as declared

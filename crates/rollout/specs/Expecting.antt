@@ -4,7 +4,7 @@ use Rattle.command_line.specs.declared.command.Source.{Source}
 use Rattle.expectations.specs.Expecting as expecting
 use Rattle.expectations.specs.Lists.{Expectation, expectations_in}
 use Rattle.expectations.specs.declared.unexpected.ExpectFault.{ExpectFault}
-use Rattle.planning.specs.declared.end.End.{End}
+use Rattle.plan_command.specs.declared.end.End.{End}
 use Rattle.rollout.specs.Lists.{RefusesList}
 use Rattle.rollout.specs.PlanFaults.{fault_of_expecting}
 use Rattle.rollout.specs.Status.{status_of_end}

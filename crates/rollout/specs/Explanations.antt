@@ -3,8 +3,8 @@ use Rattle.std.specs.Prelude.{ℕ, List, [], codes}
 use Rattle.command_line.specs.Clashes as clashes
 use Rattle.command_line.specs.Messages as messages
 use Rattle.command_line.specs.declared.fault.LineFault.TheVariants as line_fault
-use Rattle.json_texts.specs.declared.form.Form.{Form}
-use Rattle.json_texts.specs.declared.form.Form.TheVariants.{Plain, Json}
+use Rattle.json_output.specs.declared.form.Form.{Form}
+use Rattle.json_output.specs.declared.form.Form.TheVariants.{Plain, Json}
 use Rattle.rollout.specs.declared.fault.Fault.{Fault}
 use Rattle.rollout.specs.declared.fault.Fault.TheVariants.{Line, Input, Read, Fleet, Playbook, Pattern, Mixed, LongLine, JournalThere, JournalWrite, ChildrenIgnored, Stopped, Locked, BadJournal, OtherInputs, NeedsResult, OutputIsInput, NoValue, BadPlan, Unexpected, BadList, Write, Memory}
 use Rattle.terminal_text.specs.Texts.{lines_text}

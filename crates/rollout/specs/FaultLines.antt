@@ -1,7 +1,7 @@
 -- The line that reports a fault.
 use Rattle.std.specs.Prelude.{ℕ, Bool, true, false, ◌==◌, ◌||◌, if◌then◌else◌, List, [], ◌∷◌, ◌++◌, Option, Some, None, codes, decimal, flat_map}
-use Rattle.json_texts.specs.declared.form.Form.{Form}
-use Rattle.json_texts.specs.declared.form.Form.TheVariants.{Plain, Json}
+use Rattle.json_output.specs.declared.form.Form.{Form}
+use Rattle.json_output.specs.declared.form.Form.TheVariants.{Plain, Json}
 
 -- a detail of a fault, as the line shows it: a number, or a text
 pub record ShownDetail : Type 0 where

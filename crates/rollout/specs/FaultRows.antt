@@ -21,11 +21,11 @@ use Rattle.expectations.specs.declared.unexpected.Unexpected as declared_unexpec
 use Rattle.inventory_read.specs.Faults as read
 use Rattle.inventory_read.specs.declared.fault.ReadFault.{ReadFault}
 use Rattle.inventory_read.specs.declared.fault.ReadFault.TheVariants as read_fault
-use Rattle.play_rules.specs.Faults as playbook
-use Rattle.play_rules.specs.Faults.{key_name}
-use Rattle.play_rules.specs.declared.fault.PlayFault.{PlayFault}
-use Rattle.play_rules.specs.declared.fault.PlayFault.TheVariants as play_fault
-use Rattle.play_rules.specs.declared.key.ConditionKey.{ConditionKey}
+use Rattle.playbook_schema.specs.Faults as playbook
+use Rattle.playbook_schema.specs.Faults.{key_name}
+use Rattle.playbook_schema.specs.declared.fault.PlayFault.{PlayFault}
+use Rattle.playbook_schema.specs.declared.fault.PlayFault.TheVariants as play_fault
+use Rattle.playbook_schema.specs.declared.key.ConditionKey.{ConditionKey}
 use Rattle.recap.specs.Printable.{printed}
 use Rattle.rollout.specs.FaultLines.{Row, ShownDetail}
 use Rattle.rollout.specs.declared.fault.Fault.{Fault}

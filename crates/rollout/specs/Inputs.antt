@@ -93,6 +93,6 @@ pub record LacksPlaybook (sources : Sources) (inventory playbook : Source) (old 
   pub unreadable : IsUnreadable sources playbook between new fault
 
 -- the fault names the first input that could not be read whole
-abbrev pub LacksInput : Sources → Source → Source → Option (List ℕ) → Option (List ℕ) → Fault → Type 0
-LacksInput sources inventory playbook old new fault =
+abbrev pub InputUnreadable : Sources → Source → Source → Option (List ℕ) → Option (List ℕ) → Fault → Type 0
+InputUnreadable sources inventory playbook old new fault =
     IsUnreadable sources inventory old new fault ⊎ LacksPlaybook sources inventory playbook old new fault

@@ -4,9 +4,9 @@ use Rattle.command_line.specs.declared.command.Source.{Source}
 use Rattle.json_commands.specs.CourseTexts.{IsTrueCourseJsonFault, WritesCourseJson}
 use Rattle.json_commands.specs.LimitsTexts.{IsTrueLimitsFault, WritesLimits}
 use Rattle.json_commands.specs.PlanTexts.{IsTruePlanFault, WritesPlanJson}
-use Rattle.planning.specs.declared.end.End.{End}
-use Rattle.planning.specs.declared.fault.PlanFault.{PlanFault}
-use Rattle.rehearsing.specs.declared.course_end.CourseEnd.{CourseEnd}
+use Rattle.plan_command.specs.declared.end.End.{End}
+use Rattle.plan_command.specs.declared.fault.PlanFault.{PlanFault}
+use Rattle.rehearse.specs.declared.course_end.CourseEnd.{CourseEnd}
 use Rattle.rollout.specs.PlanFaults.{fault_of}
 use Rattle.rollout.specs.Status.{status_of_course, status_of_end}
 use Rattle.rollout.specs.Systems.{Sources}

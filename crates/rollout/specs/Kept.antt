@@ -10,14 +10,14 @@ use Rattle.host_vars.specs.declared.vars.Vars.{Vars}
 use Rattle.play_model.specs.declared.play.Play.{Play}
 use Rattle.journal.specs.Entries.{entries_text}
 use Rattle.journal.specs.Lines.{IsWholeLength}
-use Rattle.keeping.specs.Beginnings.{HasHead}
-use Rattle.keeping.specs.Laws.{told}
-use Rattle.keeping.specs.Resumings.{told_again}
-use Rattle.keeping.specs.Taken.{KeepsRun}
-use Rattle.resuming.specs.Resumptions.{IsMendedBeginning}
-use Rattle.resuming.specs.declared.inputs.Resumption.{Resumption}
-use Rattle.running.specs.Beginnings.{plays_from}
-use Rattle.running.specs.Inputs.{AreInputs}
+use Rattle.journal_writer.specs.Beginnings.{HasHead}
+use Rattle.journal_writer.specs.Laws.{told}
+use Rattle.journal_writer.specs.Resumings.{told_again}
+use Rattle.journal_writer.specs.Taken.{KeepsRun}
+use Rattle.resume_state.specs.Resumptions.{IsMendedBeginning}
+use Rattle.resume_state.specs.declared.inputs.Resumption.{Resumption}
+use Rattle.run_command.specs.Beginnings.{plays_from}
+use Rattle.run_command.specs.Inputs.{AreInputs}
 use Rattle.rollout.specs.Inputs.{IsTextOfFile, ReadsBoth}
 use Rattle.rollout.specs.Resumes.{IsWished, ResumeWish, resume_wish}
 use Rattle.rollout.specs.Systems.{Sources}

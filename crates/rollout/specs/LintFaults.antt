@@ -5,10 +5,10 @@ use Rattle.bounded_io.specs.Sending.{SendsFirst}
 use Rattle.bounded_io.specs.Writing.{Writes}
 use Rattle.bounded_io.specs.declared.write_fault.WriteFault.{WriteFault}
 use Rattle.bounded_io.specs.declared.text_writer.TextWriter.{TextWriter}
-use Rattle.json_texts.specs.declared.form.Form.TheVariants.{Plain}
+use Rattle.json_output.specs.declared.form.Form.TheVariants.{Plain}
 use Rattle.recap.specs.LimitsText.{field_text}
-use Rattle.every_fault.specs.Every.{IsEveryFault}
-use Rattle.every_fault.specs.declared.every.EveryFault.{EveryFault}
+use Rattle.all_faults.specs.Every.{IsEveryFault}
+use Rattle.all_faults.specs.declared.every.EveryFault.{EveryFault}
 use Rattle.rollout.specs.Endings.{MayHelp, fault_text, help_text}
 use Rattle.rollout.specs.declared.commands.faults.Found.{Found}
 use Rattle.rollout.specs.declared.fault.Fault.{Fault}

@@ -2,13 +2,13 @@
 use Rattle.std.specs.Prelude.{◌≡◌, ◌⊎◌, ℕ, Bool, false, true, List, None, Option, Some, Result, Ok, Err}
 use Rattle.bounded_io.specs.declared.write_fault.WriteFault.{WriteFault}
 use Rattle.command_line.specs.declared.command.Source.{Source}
-use Rattle.note_lines.specs.Kinds.{are_kind_names}
-use Rattle.lint_notes.specs.LintTexts.{AreFleetNotesIn, AreNotesIn, BreaksNotes, IsTrueFault, IsTrueFleetFault, WritesNotes}
-use Rattle.fleet_notes.specs.Repeats.{repeat_notes}
-use Rattle.note_lines.specs.Notes.{Note, isnt_allowed}
-use Rattle.note_lines.specs.declared.end.LintEnd.{LintEnd}
-use Rattle.planning.specs.declared.fault.PlanFault.{PlanFault}
-use Rattle.planning.specs.declared.fault.PlanFault.TheVariants as planning
+use Rattle.lint_rules.specs.Kinds.{are_kind_names}
+use Rattle.lint_command.specs.LintTexts.{AreFleetNotesIn, AreNotesIn, BreaksNotes, IsTrueFault, IsTrueFleetFault, WritesNotes}
+use Rattle.inventory_lints.specs.Repeats.{repeat_notes}
+use Rattle.lint_rules.specs.Notes.{Note, isnt_allowed}
+use Rattle.lint_rules.specs.declared.end.LintEnd.{LintEnd}
+use Rattle.plan_command.specs.declared.fault.PlanFault.{PlanFault}
+use Rattle.plan_command.specs.declared.fault.PlanFault.TheVariants as planning
 use Rattle.rollout.specs.LintFaults.{AreFaultless, LosesFaults, PrintsFaults, WantsMemory}
 use Rattle.rollout.specs.Lists.{RefusesList}
 use Rattle.rollout.specs.PlanFaults.{fault_of}

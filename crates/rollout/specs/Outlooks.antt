@@ -2,16 +2,16 @@
 use Rattle.std.specs.Prelude.{◌≡◌, ◌⊎◌, ℕ, Bool, List, Option, None, Some, Result, Ok, Err}
 use Rattle.std.specs.Io.KnownBytes.{Keeps}
 use Rattle.command_line.specs.declared.command.Source.{Source}
-use Rattle.planning.specs.declared.end.End.{End}
-use Rattle.rehearsing.specs.declared.course_end.CourseEnd.{CourseEnd}
-use Rattle.outlook.specs.Asked.{Question}
-use Rattle.outlook.specs.Courses.{IsTrueOfCourse, WritesCourse}
-use Rattle.outlook.specs.Limits.{IsTrueOfTable, WritesTable}
-use Rattle.outlook.specs.Plans.{IsTrueOfPlan, WritesPlan}
-use Rattle.outlook.specs.Rehearsals.{IsTrueOfRehearsal, RehearsesRest}
-use Rattle.outlook.specs.declared.fault.OutlookFault.{OutlookFault}
-use Rattle.outlook.specs.declared.fault.RestFault.{RestFault}
-use Rattle.rollout.specs.Inputs.{IsTextOf, IsTextOfFile, IsUnreadable, LacksInput, ReadsBoth}
+use Rattle.plan_command.specs.declared.end.End.{End}
+use Rattle.rehearse.specs.declared.course_end.CourseEnd.{CourseEnd}
+use Rattle.resume_preview.specs.Asked.{Question}
+use Rattle.resume_preview.specs.Courses.{IsTrueOfCourse, WritesCourse}
+use Rattle.resume_preview.specs.Limits.{IsTrueOfTable, WritesTable}
+use Rattle.resume_preview.specs.Plans.{IsTrueOfPlan, WritesPlan}
+use Rattle.resume_preview.specs.Rehearsals.{IsTrueOfRehearsal, RehearsesRest}
+use Rattle.resume_preview.specs.declared.fault.OutlookFault.{OutlookFault}
+use Rattle.resume_preview.specs.declared.fault.PreviewFault.{PreviewFault}
+use Rattle.rollout.specs.Inputs.{IsTextOf, IsTextOfFile, IsUnreadable, InputUnreadable, ReadsBoth}
 use Rattle.rollout.specs.OutlookFaults.{fault_of, fault_of_rest}
 use Rattle.rollout.specs.Rehearsals.{status_of_session}
 use Rattle.rollout.specs.Resumes.{LacksJournal, ResumeWish}
@@ -33,7 +33,7 @@ pub record ReadsAll (sources : Sources) (inventory playbook : Source) (name : Li
 
 -- an input can't be read, or the journal
 abbrev pub LacksAny : Sources → Source → Source → List ℕ → Option (List ℕ) → Option (List ℕ) → Fault → Type 0
-LacksAny sources inventory playbook name old new fault = LacksInput sources inventory playbook old new fault ⊎ LacksJournal sources.known.files name fault
+LacksAny sources inventory playbook name old new fault = InputUnreadable sources inventory playbook old new fault ⊎ LacksJournal sources.known.files name fault
 
 -- the plan, or the course where one is asked for, went out, and the status tells of its end
 pub record PrintsPlan (asked : Question) (old new : Option (List ℕ)) (status : Status) : Type 0 where
@@ -92,7 +92,7 @@ pub record AnswersRest (strict : Bool) (asked : Question) (input_old input_new o
 
 -- the fault is true of the texts, of a session, or of where its answers broke off
 pub record BreaksRehearsal (is_reliable : Bool) (asked : Question) (input_old input_new out_old out_new : Option (List ℕ)) (fault : Fault) : Type 0 where
-  pub cause : RestFault
+  pub cause : PreviewFault
   pub is : fault ≡ fault_of_rest cause
   pub is_true : IsTrueOfRehearsal is_reliable asked input_old input_new out_old out_new cause
 
@@ -146,9 +146,9 @@ pub record EndsStanding (sources : Sources) (inventory : Source) (wish : ResumeW
   pub is_true : IsTrueOfTable first second wish.mended wish.takes_others out_old out_new cause
 
 -- the command `limits` that begins from the journal of a run
-abbrev pub TabulatesStanding : Sources → Source → ResumeWish → Option (List ℕ) → Option (List ℕ) → Option (List ℕ) → Option (List ℕ) → Result Status Fault → Type 0
-TabulatesStanding sources inventory wish input_old input_new out_old out_new (Ok status) =
+abbrev pub LimitsFromJournal : Sources → Source → ResumeWish → Option (List ℕ) → Option (List ℕ) → Option (List ℕ) → Option (List ℕ) → Result Status Fault → Type 0
+LimitsFromJournal sources inventory wish input_old input_new out_old out_new (Ok status) =
     ShowsStanding sources inventory wish input_old input_new out_old out_new status
-TabulatesStanding sources inventory wish input_old input_new out_old out_new (Err fault) =
+LimitsFromJournal sources inventory wish input_old input_new out_old out_new (Err fault) =
     (LacksOne sources inventory wish.journal input_old input_new fault × Keeps out_old out_new)
     ⊎ EndsStanding sources inventory wish input_old input_new out_old out_new fault

@@ -1,7 +1,7 @@
 -- What the command `explain` does. What an entry says behind its word is shown by a script.
 use Rattle.std.specs.Prelude.{◌≡◌, ◌⊎◌, true, false, ℕ, List, Option, Result, Err}
 use Rattle.std.specs.Io.KnownBytes.{Keeps}
-use Rattle.command_line.specs.declared.clash.Clash.TheVariants.{NoEntry}
+use Rattle.command_line.specs.declared.option_conflict.OptionConflict.TheVariants.{NoEntry}
 use Rattle.command_line.specs.declared.fault.LineFault.TheVariants.{Apart}
 use Rattle.hints.specs.Entries.{IsEntryOf}
 use Rattle.hints.specs.Listed.{has_entry}

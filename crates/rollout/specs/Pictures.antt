@@ -1,8 +1,8 @@
 -- What the command `plan` does where it is asked for a picture.
 use Rattle.std.specs.Prelude.{◌≡◌, ◌⊎◌, ℕ, Bool, true, false, List, Option, None, Some, Result, Ok, Err}
 use Rattle.command_line.specs.declared.command.Source.{Source}
-use Rattle.play_course.specs.declared.boundary.Boundary.{Boundary}
-use Rattle.rehearsing.specs.declared.course.PlayCourse.{PlayCourse}
+use Rattle.play_forecast.specs.declared.boundary.Boundary.{Boundary}
+use Rattle.rehearse.specs.declared.course.PlayCourse.{PlayCourse}
 use Rattle.rollout.specs.Groups.{PlansBy}
 use Rattle.rollout.specs.Systems.{Sources}
 use Rattle.rollout.specs.declared.fault.Fault.{Fault}

@@ -1,6 +1,6 @@
 -- What a fault of planning is to the program.
-use Rattle.planning.specs.declared.fault.PlanFault.{PlanFault}
-use Rattle.planning.specs.declared.fault.PlanFault.TheVariants as planning
+use Rattle.plan_command.specs.declared.fault.PlanFault.{PlanFault}
+use Rattle.plan_command.specs.declared.fault.PlanFault.TheVariants as planning
 use Rattle.expectations.specs.declared.unexpected.ExpectFault.{ExpectFault}
 use Rattle.expectations.specs.declared.unexpected.ExpectFault.TheVariants as expecting
 use Rattle.plan_check.specs.declared.fault.CheckFault.{CheckFault}

@@ -2,10 +2,10 @@
 use Rattle.std.specs.Prelude.{◌≡◌, ◌⊎◌, ℕ, List, Option, Result, Ok, Err}
 use Rattle.std.specs.Io.KnownBytes.{Keeps}
 use Rattle.command_line.specs.declared.command.Source.{Source}
-use Rattle.planning.specs.PlanTexts.{WritesPlan, IsTrueFault}
-use Rattle.planning.specs.declared.end.End.{End}
-use Rattle.planning.specs.declared.fault.PlanFault.{PlanFault}
-use Rattle.rollout.specs.Inputs.{LacksInput, ReadsBoth}
+use Rattle.plan_command.specs.PlanTexts.{WritesPlan, IsTrueFault}
+use Rattle.plan_command.specs.declared.end.End.{End}
+use Rattle.plan_command.specs.declared.fault.PlanFault.{PlanFault}
+use Rattle.rollout.specs.Inputs.{InputUnreadable, ReadsBoth}
 use Rattle.rollout.specs.PlanFaults.{fault_of}
 use Rattle.rollout.specs.Status.{status_of_end}
 use Rattle.rollout.specs.Systems.{Sources}
@@ -43,5 +43,5 @@ abbrev pub Plans : Sources → Source → Source → Option (List ℕ) → Optio
 Plans sources inventory playbook input_old input_new out_old out_new (Ok status) =
     ShowsPlan sources inventory playbook input_old input_new out_old out_new status
 Plans sources inventory playbook input_old input_new out_old out_new (Err fault) =
-    (LacksInput sources inventory playbook input_old input_new fault × Keeps out_old out_new)
+    (InputUnreadable sources inventory playbook input_old input_new fault × Keeps out_old out_new)
     ⊎ RefusesPlan sources inventory playbook input_old input_new out_old out_new fault

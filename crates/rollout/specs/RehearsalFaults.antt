@@ -2,8 +2,8 @@
 use Rattle.bounded_io.specs.declared.input_fault.InputFault.{InputFault}
 use Rattle.bounded_io.specs.declared.input_fault.InputFault.TheVariants as input
 use Rattle.command_line.specs.declared.command.Source.TheVariants.{StandardInput}
-use Rattle.rehearsing.specs.declared.fault.RehearseFault.{RehearseFault}
-use Rattle.rehearsing.specs.declared.fault.RehearseFault.TheVariants as rehearsing
+use Rattle.rehearse.specs.declared.fault.RehearseFault.{RehearseFault}
+use Rattle.rehearse.specs.declared.fault.RehearseFault.TheVariants as rehearsing
 use Rattle.rollout.specs.PlanFaults as planning
 use Rattle.rollout.specs.declared.fault.Fault.{Fault}
 use Rattle.rollout.specs.declared.fault.Fault.TheVariants.{Input, LongLine, Write, Memory}

@@ -2,11 +2,11 @@
 use Rattle.std.specs.Prelude.{◌≡◌, ◌⊎◌, ◌&&◌, ℕ, Bool, if◌then◌else◌, List, Option, Result, Ok, Err}
 use Rattle.std.specs.Io.KnownBytes.{Keeps}
 use Rattle.command_line.specs.declared.command.Source.{Source}
-use Rattle.json_texts.specs.declared.form.Form.{Form}
-use Rattle.rehearsing.specs.Tellings.{telling_of}
-use Rattle.rehearsing.specs.RehearseTexts.{Rehearses, IsTrueFault}
-use Rattle.rehearsing.specs.declared.fault.RehearseFault.{RehearseFault}
-use Rattle.rollout.specs.Inputs.{LacksInput, ReadsBoth}
+use Rattle.json_output.specs.declared.form.Form.{Form}
+use Rattle.rehearse.specs.Tellings.{telling_of}
+use Rattle.rehearse.specs.RehearseTexts.{Rehearses, IsTrueFault}
+use Rattle.rehearse.specs.declared.fault.RehearseFault.{RehearseFault}
+use Rattle.rollout.specs.Inputs.{InputUnreadable, ReadsBoth}
 use Rattle.rollout.specs.RehearsalFaults.{fault_of}
 use Rattle.rollout.specs.Systems.{Sources}
 use Rattle.rollout.specs.declared.fault.Fault.{Fault}
@@ -50,5 +50,5 @@ abbrev pub RehearsesInputs : Form → Bool → Sources → Source → Source →
 RehearsesInputs form strict sources inventory playbook input_old input_new out_old out_new (Ok status) =
     HoldsRehearsal form strict sources inventory playbook input_old input_new out_old out_new status
 RehearsesInputs form strict sources inventory playbook input_old input_new out_old out_new (Err fault) =
-    (LacksInput sources inventory playbook input_old input_new fault × Keeps out_old out_new)
+    (InputUnreadable sources inventory playbook input_old input_new fault × Keeps out_old out_new)
     ⊎ EndsRehearsal form sources inventory playbook input_old input_new out_old out_new fault

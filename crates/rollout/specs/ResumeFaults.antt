@@ -1,6 +1,6 @@
 -- What it is to the program that a run doesn't go on.
-use Rattle.resuming.specs.declared.fault.ResumeFault.{ResumeFault}
-use Rattle.resuming.specs.declared.fault.ResumeFault.TheVariants as resuming
+use Rattle.resume_state.specs.declared.fault.ResumeFault.{ResumeFault}
+use Rattle.resume_state.specs.declared.fault.ResumeFault.TheVariants as resuming
 use Rattle.rollout.specs.RollFaults as rolls
 use Rattle.rollout.specs.JournalFaults as journals
 use Rattle.rollout.specs.declared.fault.Fault.{Fault}

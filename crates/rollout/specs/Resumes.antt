@@ -9,18 +9,18 @@ use Rattle.host_track.specs.Endings.{Ending}
 use Rattle.event_log.specs.Events.{Event}
 use Rattle.event_log.specs.Told.{Work}
 use Rattle.play_model.specs.declared.play.Play.{Play}
-use Rattle.resuming.specs.Resumptions.{IsResumption, RefusesToResume}
-use Rattle.resuming.specs.declared.fault.ResumeFault.{ResumeFault}
-use Rattle.resuming.specs.declared.inputs.Resumption.{Resumption}
-use Rattle.running.specs.Beginnings.{AreSafeBehind, IsTrueFaultFrom, WritesFrom}
-use Rattle.running.specs.declared.beginning.Beginning.{Beginning}
-use Rattle.json_texts.specs.declared.form.Form.{Form}
+use Rattle.resume_state.specs.Resumptions.{IsResumption, RefusesToResume}
+use Rattle.resume_state.specs.declared.fault.ResumeFault.{ResumeFault}
+use Rattle.resume_state.specs.declared.inputs.Resumption.{Resumption}
+use Rattle.run_command.specs.Beginnings.{AreSafeBehind, IsTrueFaultFrom, WritesFrom}
+use Rattle.run_command.specs.declared.beginning.Beginning.{Beginning}
+use Rattle.json_output.specs.declared.form.Form.{Form}
 use Rattle.rollout.specs.Children.{IsAnswerOf}
 use Rattle.rollout.specs.Endings.{form_of}
-use Rattle.rollout.specs.Inputs.{IsFaultOfFile, IsTextOfFile, LacksInput, ReadsBoth}
+use Rattle.rollout.specs.Inputs.{IsFaultOfFile, IsTextOfFile, InputUnreadable, ReadsBoth}
 use Rattle.rollout.specs.ResumeFaults as refusals
 use Rattle.rollout.specs.Rolls.{Breaks, Prints, RefusesToRoll, Rolls}
-use Rattle.resuming.specs.Resumptions.{IsMendedBeginning, RefusesToBegin}
+use Rattle.resume_state.specs.Resumptions.{IsMendedBeginning, RefusesToBegin}
 use Rattle.rollout.specs.Systems.{Files, Sources}
 use Rattle.rollout.specs.declared.fault.Fault.{Fault}
 use Rattle.rollout.specs.declared.fault.Fault.TheVariants.{Input, JournalWrite, Memory, Stopped}
@@ -105,7 +105,7 @@ pub record GoesOn (form : Form) (may : Work → Ending → Type 0) (sources : So
 pub record LacksAny (sources : Sources) (inventory playbook : Source) (wish : ResumeWish) (input_old input_new out_old out_new : Option (List ℕ)) (result : Result Status Fault) (logs : List (List Event)) : Type 0 where
   pub fault : Fault
   pub is : result ≡ Err fault
-  pub why : LacksInput sources inventory playbook input_old input_new fault ⊎ LacksJournal sources.known.files wish.journal fault
+  pub why : InputUnreadable sources inventory playbook input_old input_new fault ⊎ LacksJournal sources.known.files wish.journal fault
   pub unwritten : Keeps out_old out_new
   pub none : logs ≡ []
 
@@ -142,7 +142,7 @@ pub record BeginsMended (form : Form) (may : Work → Ending → Type 0) (source
 pub record LacksEither (sources : Sources) (inventory playbook : Source) (input_old input_new out_old out_new : Option (List ℕ)) (result : Result Status Fault) (logs : List (List Event)) : Type 0 where
   pub fault : Fault
   pub is : result ≡ Err fault
-  pub why : LacksInput sources inventory playbook input_old input_new fault
+  pub why : InputUnreadable sources inventory playbook input_old input_new fault
   pub unwritten : Keeps out_old out_new
   pub none : logs ≡ []
 

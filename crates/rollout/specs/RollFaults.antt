@@ -3,8 +3,8 @@ use Rattle.fork_pool.specs.declared.fault.StepFault.{StepFault}
 use Rattle.fork_pool.specs.declared.fault.StepFault.TheVariants as step
 use Rattle.roll_run.specs.declared.fault.Break.{Break}
 use Rattle.roll_run.specs.declared.fault.Break.TheVariants as break
-use Rattle.running.specs.declared.fault.RunTextFault.{RunTextFault}
-use Rattle.running.specs.declared.fault.RunTextFault.TheVariants as running
+use Rattle.run_command.specs.declared.fault.RunTextFault.{RunTextFault}
+use Rattle.run_command.specs.declared.fault.RunTextFault.TheVariants as running
 use Rattle.rollout.specs.PlanFaults as planning
 use Rattle.rollout.specs.declared.fault.Fault.{Fault}
 use Rattle.rollout.specs.declared.fault.Fault.TheVariants.{Mixed, JournalWrite, Stopped, Write, Memory}

@@ -6,12 +6,12 @@ use Rattle.command_line.specs.declared.command.Source.{Source}
 use Rattle.host_track.specs.Endings.{Ending}
 use Rattle.event_log.specs.Events.{Event}
 use Rattle.event_log.specs.Told.{Work}
-use Rattle.running.specs.RunTexts.{AreSafeIn, WritesRecap, IsTrueFault}
-use Rattle.running.specs.declared.end.RunEnd.{RunEnd}
-use Rattle.running.specs.declared.fault.RunTextFault.{RunTextFault}
-use Rattle.json_texts.specs.declared.form.Form.{Form}
+use Rattle.run_command.specs.RunTexts.{AreSafeIn, WritesRecap, IsTrueFault}
+use Rattle.run_command.specs.declared.end.RunEnd.{RunEnd}
+use Rattle.run_command.specs.declared.fault.RunTextFault.{RunTextFault}
+use Rattle.json_output.specs.declared.form.Form.{Form}
 use Rattle.rollout.specs.Children.{IsAnswerOf}
-use Rattle.rollout.specs.Inputs.{LacksInput, ReadsBoth}
+use Rattle.rollout.specs.Inputs.{InputUnreadable, ReadsBoth}
 use Rattle.rollout.specs.RollFaults.{fault_of}
 use Rattle.rollout.specs.Status.{status_of_run}
 use Rattle.rollout.specs.Strictness.{FindsNames, RefusesNames}
@@ -82,7 +82,7 @@ abbrev pub RollsInputs : Form → Bool → (Work → Ending → Type 0) → Sour
 RollsInputs form strict may sources inventory playbook forks input_old input_new out_old out_new (Ok status) logs =
     ShowsRecap form strict may sources inventory playbook forks input_old input_new out_old out_new status logs
 RollsInputs form strict may sources inventory playbook forks input_old input_new out_old out_new (Err fault) logs =
-    (LacksInput sources inventory playbook input_old input_new fault × Keeps out_old out_new × (logs ≡ []))
+    (InputUnreadable sources inventory playbook input_old input_new fault × Keeps out_old out_new × (logs ≡ []))
     ⊎ HoldsBack strict sources inventory playbook input_old input_new out_old out_new fault logs
     ⊎ BreaksRun form strict may sources inventory playbook forks input_old input_new out_old out_new fault logs
 

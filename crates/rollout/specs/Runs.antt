@@ -21,7 +21,7 @@ use Rattle.rollout.specs.Endings.{Reporting, MayHelp, Reports, form_of, plain_re
 use Rattle.rollout.specs.Expecting.{ExpectsPlan, ExpectsTable}
 use Rattle.rollout.specs.Jsons.{PlansJson, TabulatesJson}
 use Rattle.rollout.specs.Notes.{Lints}
-use Rattle.rollout.specs.Outlooks.{PlansRest, RehearsesFrom, TabulatesStanding}
+use Rattle.rollout.specs.Outlooks.{PlansRest, RehearsesFrom, LimitsFromJournal}
 use Rattle.rollout.specs.Outputs.{RefusesName}
 use Rattle.rollout.specs.Pages.{Explains}
 use Rattle.rollout.specs.Pictures.{PlansDrawn}
@@ -46,7 +46,7 @@ TabulatesAtStart (Some list) json sources inventory input_old input_new out_old 
 abbrev pub TabulatesBy : Option (List ℕ) → Wish → Sources → Source → Option (List ℕ) → Option (List ℕ) → Option (List ℕ) → Option (List ℕ) → Result Status Fault → Type 0
 TabulatesBy None wish sources inventory input_old input_new out_old out_new result = TabulatesAtStart wish.expected wish.json sources inventory input_old input_new out_old out_new result
 TabulatesBy (Some journal) wish sources inventory input_old input_new out_old out_new result =
-    TabulatesStanding sources inventory (resume_wish journal wish) input_old input_new out_old out_new result
+    LimitsFromJournal sources inventory (resume_wish journal wish) input_old input_new out_old out_new result
 
 -- the command `plan` from the start; numbers may be expected of the plan, or it is asked for as JSON
 abbrev pub PlansAtStart : Option (List ℕ) → Bool → Wish → Sources → Source → Source → Option (List ℕ) → Option (List ℕ) → Option (List ℕ) → Option (List ℕ) → Result Status Fault → Type 0

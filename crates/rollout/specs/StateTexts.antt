@@ -6,14 +6,14 @@ use Rattle.command_line.specs.declared.command.Source.{Source}
 use Rattle.command_line.specs.declared.command.Source.TheVariants.{StandardInput, File}
 use Rattle.domains.specs.FleetViews.{FleetView}
 use Rattle.fleet_states.specs.declared.status.Status as hosts
-use Rattle.play_course.specs.declared.end.End.{End}
-use Rattle.running.specs.Ends.{end_of}
+use Rattle.play_forecast.specs.declared.end.End.{End}
+use Rattle.run_command.specs.Ends.{end_of}
 use Rattle.journal.specs.Names.{HasPlainNames}
 use Rattle.journal.specs.Standing.{run_end, state_text}
 use Rattle.journal.specs.States.{JournalState}
-use Rattle.outlook.specs.Begun.{IsBegunJournal, RefusesBegun}
-use Rattle.resuming.specs.declared.fault.ResumeFault.{ResumeFault}
-use Rattle.rollout.specs.Inputs.{LacksInput, ReadsBoth}
+use Rattle.resume_preview.specs.Begun.{IsBegunJournal, RefusesBegun}
+use Rattle.resume_state.specs.declared.fault.ResumeFault.{ResumeFault}
+use Rattle.rollout.specs.Inputs.{InputUnreadable, ReadsBoth}
 use Rattle.rollout.specs.ResumeFaults.{fault_of}
 use Rattle.rollout.specs.LimitsText.{IsFleetIn, IsUnread}
 use Rattle.rollout.specs.Status.{status_of_run}
@@ -109,5 +109,5 @@ abbrev pub TellsState : Bool → Sources → Source → Source → Option (List 
 TellsState takes_others sources inventory journal input_old input_new out_old out_new (Ok status) =
     HoldsState takes_others sources inventory journal input_old input_new out_old out_new status
 TellsState takes_others sources inventory journal input_old input_new out_old out_new (Err fault) =
-    (LacksInput sources inventory journal input_old input_new fault × Keeps out_old out_new)
+    (InputUnreadable sources inventory journal input_old input_new fault × Keeps out_old out_new)
     ⊎ EndsState takes_others sources inventory journal input_old input_new out_old out_new fault

@@ -1,17 +1,17 @@
 -- The exit statuses.
 use Rattle.std.specs.Prelude.{ℕ}
-use Rattle.planning.specs.declared.end.End.{End}
-use Rattle.planning.specs.declared.end.End.TheVariants as ends
-use Rattle.running.specs.declared.end.RunEnd.{RunEnd}
-use Rattle.running.specs.declared.end.RunEnd.TheVariants as run_ends
-use Rattle.rehearsing.specs.declared.course_end.CourseEnd.{CourseEnd}
-use Rattle.rehearsing.specs.declared.course_end.CourseEnd.TheVariants as course_ends
+use Rattle.plan_command.specs.declared.end.End.{End}
+use Rattle.plan_command.specs.declared.end.End.TheVariants as ends
+use Rattle.run_command.specs.declared.end.RunEnd.{RunEnd}
+use Rattle.run_command.specs.declared.end.RunEnd.TheVariants as run_ends
+use Rattle.rehearse.specs.declared.course_end.CourseEnd.{CourseEnd}
+use Rattle.rehearse.specs.declared.course_end.CourseEnd.TheVariants as course_ends
 use Rattle.plan_check.specs.declared.end.CheckEnd.{CheckEnd}
 use Rattle.plan_check.specs.declared.end.CheckEnd.TheVariants as check_ends
-use Rattle.step_words.specs.declared.end.WordsEnd.{WordsEnd}
-use Rattle.step_words.specs.declared.end.WordsEnd.TheVariants as words_ends
-use Rattle.note_lines.specs.declared.end.LintEnd.{LintEnd}
-use Rattle.note_lines.specs.declared.end.LintEnd.TheVariants as lint_ends
+use Rattle.command_preview.specs.declared.end.WordsEnd.{WordsEnd}
+use Rattle.command_preview.specs.declared.end.WordsEnd.TheVariants as words_ends
+use Rattle.lint_rules.specs.declared.end.LintEnd.{LintEnd}
+use Rattle.lint_rules.specs.declared.end.LintEnd.TheVariants as lint_ends
 use Rattle.rollout.specs.declared.status.Status.{Status}
 use Rattle.rollout.specs.declared.status.Status.TheVariants.{Done, Refused, Failed, Blocked, Stopped, Memory, BrokenOff, Running}
 

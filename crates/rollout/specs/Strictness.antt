@@ -1,9 +1,9 @@
 -- Whether a run begins only where no step may look for a name in vain.
 use Rattle.std.specs.Prelude.{◌≡◌, ◌⊎◌, ℕ, Bool, true, false, Some, None, List, ⊤}
-use Rattle.missing_names.specs.NoValues.{IsFirstMiss}
-use Rattle.missing_names.specs.declared.no_value.NoValue as declared
-use Rattle.planning.specs.declared.fault.PlanFault.{PlanFault}
-use Rattle.step_words.specs.WordTexts.{IsRefused}
+use Rattle.undefined_names.specs.NoValues.{IsFirstMiss}
+use Rattle.undefined_names.specs.declared.no_value.NoValue as declared
+use Rattle.plan_command.specs.declared.fault.PlanFault.{PlanFault}
+use Rattle.command_preview.specs.WordTexts.{IsRefused}
 use Rattle.rollout.specs.PlanFaults.{fault_of}
 use Rattle.rollout.specs.declared.fault.Fault.{Fault}
 use Rattle.rollout.specs.declared.fault.Fault.TheVariants.{NoValue}

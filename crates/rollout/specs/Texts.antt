@@ -2,7 +2,7 @@
 use Rattle.std.specs.Prelude.{◌⊎◌, ℕ, List, Option, Result, Ok, Err}
 use Rattle.std.specs.Io.KnownBytes.{Keeps}
 use Rattle.command_line.specs.declared.command.Source.{Source}
-use Rattle.rollout.specs.Inputs.{IsTextOf, IsUnreadable, LacksInput, ReadsBoth}
+use Rattle.rollout.specs.Inputs.{IsTextOf, IsUnreadable, InputUnreadable, ReadsBoth}
 use Rattle.rollout.specs.Systems.{Sources}
 use Rattle.rollout.specs.declared.fault.Fault.{Fault}
 use Rattle.rollout.specs.declared.status.Status.{Status}
@@ -31,7 +31,7 @@ abbrev pub OverTwo : (List ℕ → List ℕ → Status → Type 0) → (List ℕ
 OverTwo Says Refuses sources inventory playbook input_old input_new out_old out_new (Ok status) =
     OfTwo (λ first second. Says first second status) sources inventory playbook input_old input_new
 OverTwo Says Refuses sources inventory playbook input_old input_new out_old out_new (Err fault) =
-    (LacksInput sources inventory playbook input_old input_new fault × Keeps out_old out_new)
+    (InputUnreadable sources inventory playbook input_old input_new fault × Keeps out_old out_new)
     ⊎ OfTwo (λ first second. Refuses first second fault) sources inventory playbook input_old input_new
 
 -- three inputs were read whole, in this order
@@ -51,7 +51,7 @@ pub record LacksPlan (sources : Sources) (inventory playbook plan : Source) (old
 -- the fault names the first input that could not be read whole
 abbrev pub LacksOne : Sources → Source → Source → Source → Option (List ℕ) → Option (List ℕ) → Fault → Type 0
 LacksOne sources inventory playbook plan old new fault =
-    LacksInput sources inventory playbook old new fault ⊎ LacksPlan sources inventory playbook plan old new fault
+    InputUnreadable sources inventory playbook old new fault ⊎ LacksPlan sources inventory playbook plan old new fault
 
 -- all three were read, and this holds of their texts
 pub record OfThree (Holds : List ℕ → List ℕ → List ℕ → Type 0) (sources : Sources) (inventory playbook plan : Source) (old new : Option (List ℕ)) : Type 0 where

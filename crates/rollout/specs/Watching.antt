@@ -3,7 +3,7 @@ use Rattle.std.specs.Prelude.{◌≡◌, Bool, true, false, Option, Some, None}
 use Rattle.command_line.specs.Wishes.{Wish}
 use Rattle.command_line.specs.declared.command.Line as declared_line
 use Rattle.command_line.specs.declared.command.Line.TheVariants.{Limits, Plan, Run, Rehearse, State, Check, Lint, Explain, Print}
-use Rattle.telling.specs.declared.mode.Seen.{Seen}
+use Rattle.run_progress.specs.declared.mode.Seen.{Seen}
 
 -- it is seen as the words ask for; how wide it may be is asked for where a line may be drawn alone
 pub record IsSeenSo (wish : Wish) (draws : Bool) (seen : Seen) : Type 0 where

@@ -1,9 +1,9 @@
 -- What the command `plan` does where it is asked for the words of the steps.
 use Rattle.std.specs.Prelude.{◌≡◌, ℕ, List, Option, Result}
 use Rattle.command_line.specs.declared.command.Source.{Source}
-use Rattle.planning.specs.declared.fault.PlanFault.{PlanFault}
-use Rattle.step_words.specs.WordTexts.{IsTrueFault, WritesWords}
-use Rattle.step_words.specs.declared.end.WordsEnd.{WordsEnd}
+use Rattle.plan_command.specs.declared.fault.PlanFault.{PlanFault}
+use Rattle.command_preview.specs.WordTexts.{IsTrueFault, WritesWords}
+use Rattle.command_preview.specs.declared.end.WordsEnd.{WordsEnd}
 use Rattle.rollout.specs.PlanFaults.{fault_of}
 use Rattle.rollout.specs.Status.{status_of_words}
 use Rattle.rollout.specs.Systems.{Sources}

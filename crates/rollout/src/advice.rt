@@ -8,8 +8,8 @@ use domains::{Fleet, FleetFault, PatternFault};
 use group_tree::{GroupId, HostId};
 use hints::{Document, fleet_help, pattern_help, play_help, read_help};
 use inventory_read::ReadFault;
-use planning::read_fleet;
-use play_rules::PlayFault;
+use plan_command::read_fleet;
+use playbook_schema::PlayFault;
 use recap::{group_name, host_name};
 use std::alloc::{AllocError, Global};
 

@@ -4,10 +4,10 @@ ghost use Rattle.bounded_io.specs.Writing.{Writes};
 ghost use Rattle.command_line.specs.Wishes.{wish_as};
 ghost use Rattle.rollout.specs.Calls as spec;
 
-use aftermath::Call;
 use bounded_io::TextWriter;
-use command_line::{Forks, Source, Wishes};
+use command_line::{Forks, Options, Source};
 use recap::write_field;
+use run_diagnosis::Call;
 use std::alloc::{AllocError, Global};
 use std::io::Write;
 use terminal_text::write_shell_word;
@@ -18,7 +18,7 @@ pub(crate) fn call_of(
     inventory: &Source,
     playbook: &Source,
     forks: &Forks,
-    wishes: &Wishes,
+    wishes: &Options,
 ) -> Option<Call>
     ensures { IfSome result (spec.IsCall (wish_as wishes.now) forks.now inventory.now playbook.now) }
 {
@@ -83,7 +83,7 @@ fn call_by(
     inventory: &Source,
     playbook: &Source,
     forks: &Forks,
-    wishes: &Wishes,
+    wishes: &Options,
 ) -> Option<Call>
     ensures front { IfSome result (λ call. call.front.items ≡ spec.front_text journal.now) }
     ensures back { IfSome result (λ call. call.back.items ≡ spec.back_text (wish_as wishes.now) forks.now inventory.now playbook.now) }
@@ -113,7 +113,7 @@ fn back_bytes(
     inventory: &Source,
     playbook: &Source,
     forks: &Forks,
-    wishes: &Wishes,
+    wishes: &Options,
 ) -> Result<Vec<u8>, AllocError>
     ensures { IfOk result (λ bytes. bytes.items ≡ spec.back_text (wish_as wishes.now) forks.now inventory.now playbook.now) }
 {
@@ -188,7 +188,7 @@ fn write_back<W: Write>(
     inventory: &Source,
     playbook: &Source,
     forks: usize,
-    wishes: &Wishes,
+    wishes: &Options,
 )
     ensures { Writes W.contents text.old text.new (spec.back_text (wish_as wishes.now) forks inventory.now playbook.now) }
 {

@@ -44,7 +44,7 @@ fn says_ignored(text: &[u8]) -> bool
     ensures { result ≡ spec.says_ignored text.now }
 {
     for place in 0..text.len() {
-        if begins_ignored(&text[place..]) {
+        if starts_ignored(&text[place..]) {
             return true;
         }
     }
@@ -53,8 +53,8 @@ fn says_ignored(text: &[u8]) -> bool
 
 /// Whether the text begins with such a row: a line feed, the row's name, and sixteen hexadecimal digits. The lowest bit of the twelfth is
 /// that of signal 17.
-fn begins_ignored(text: &[u8]) -> bool
-    ensures { result ≡ spec.begins_ignored text.now }
+fn starts_ignored(text: &[u8]) -> bool
+    ensures { result ≡ spec.starts_ignored text.now }
 {
     text.starts_with(b"\nSigIgn:\t") && is_odd_digit_at(text, 20)
 }

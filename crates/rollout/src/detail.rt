@@ -7,7 +7,7 @@ ghost use Rattle.rollout.specs.FaultLines.{detail_in};
 ghost use Rattle.rollout.specs.FaultLines as spec;
 
 use bounded_io::TextWriter;
-use json_texts::Form;
+use json_output::Form;
 use recap::write_printable;
 use std::io::Write;
 

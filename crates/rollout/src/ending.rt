@@ -11,7 +11,7 @@ use crate::fault::Fault;
 use crate::fault_line::write_fault;
 use crate::status::Status;
 use bounded_io::{TextWriter, WriteFault};
-use json_texts::Form;
+use json_output::Form;
 use std::io::Write;
 use std::process::ExitCode;
 

@@ -6,7 +6,7 @@ ghost use Rattle.rollout.specs.Explanations as spec;
 use crate::fault::Fault;
 use bounded_io::TextWriter;
 use command_line::LineFault;
-use json_texts::Form;
+use json_output::Form;
 use std::io::Write;
 use terminal_text::write_lines;
 

@@ -10,16 +10,16 @@ use expectations::{ExpectFault, Unexpected};
 use fork_pool::StepFault;
 use inventory_read::ReadFault;
 use journal::JournalFault;
-use missing_names::NoValue;
-use outlook::{OutlookFault, RestFault};
 use plan_check::CheckFault;
-use planning::PlanFault;
-use play_rules::PlayFault;
-use rehearsing::RehearseFault;
-use resuming::ResumeFault;
+use plan_command::PlanFault;
+use playbook_schema::PlayFault;
+use rehearse::RehearseFault;
+use resume_preview::{OutlookFault, PreviewFault};
+use resume_state::ResumeFault;
 use roll_run::Break;
-use running::RunTextFault;
+use run_command::RunTextFault;
 use std::alloc::AllocError;
+use undefined_names::NoValue;
 
 /// Why the program did not do what it was asked for.
 #[derive(Debug, Drop)]
@@ -277,16 +277,16 @@ impl From<OutlookFault> for Fault {
     }
 }
 
-impl From<RestFault> for Fault {
+impl From<PreviewFault> for Fault {
     ghost use Rattle.std.specs.Prelude.{◌≡◌};
     ghost use Rattle.rollout.specs.OutlookFaults.{fault_of_rest};
 
     ghost from_gives = { λ cause fault. fault ≡ fault_of_rest cause };
 
-    fn from(fault: RestFault) -> Fault {
+    fn from(fault: PreviewFault) -> Fault {
         match fault {
-            RestFault::Resume(why) => Fault::from(why),
-            RestFault::Session(fault) => Fault::from(fault),
+            PreviewFault::Resume(why) => Fault::from(why),
+            PreviewFault::Session(fault) => Fault::from(fault),
         }
     }
 }

@@ -16,7 +16,7 @@ use crate::text_rows::{
     write_unexpected_row,
 };
 use bounded_io::TextWriter;
-use json_texts::Form;
+use json_output::Form;
 use std::io::Write;
 
 /// Writes the fault's line; behind a bad line of words follows what is wrong with it, and behind ignored children what to do.

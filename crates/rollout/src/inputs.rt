@@ -1,6 +1,6 @@
 //! Reading the two inputs of a line that names an inventory and a playbook.
 ghost use Rattle.std.specs.Prelude.{◌≡◌, IfOk, IfErr};
-ghost use Rattle.rollout.specs.Inputs.{IsTextOf, IsUnreadable, LacksInput, ReadsBoth};
+ghost use Rattle.rollout.specs.Inputs.{IsTextOf, IsUnreadable, InputUnreadable, ReadsBoth};
 ghost use Rattle.rollout.specs.Locks.{IsGiven};
 ghost use Rattle.rollout.specs.Systems.{sources_of};
 ghost use Rattle.rollout.specs.Texts.{LacksOne, ReadsThree};
@@ -56,7 +56,7 @@ pub fn read_both<S: System, I: Input>(
     ensures ok { IfOk result (λ texts. ReadsBoth (sources_of (S.known system.now) (I.is_reliable input.old)) inventory playbook
         (I.remaining input.old) (I.remaining input.new) texts.0.items texts.1.items) }
     ensures err { IfErr result
-        (LacksInput (sources_of (S.known system.now) (I.is_reliable input.old)) inventory playbook (I.remaining input.old) (I.remaining input.new)) }
+        (InputUnreadable (sources_of (S.known system.now) (I.is_reliable input.old)) inventory playbook (I.remaining input.old) (I.remaining input.new)) }
     ensures stays { I.is_reliable input.new ≡ I.is_reliable input.old }
 {
     read_behind(system, alloc, Given::Nothing, inventory, playbook, input)
@@ -75,7 +75,7 @@ pub(crate) fn read_behind<S: System, I: Input>(
     ensures ok { IfOk result (λ texts. ReadsBoth (sources_of (S.known system.now) (I.is_reliable input.old)) inventory playbook
         (I.remaining input.old) (I.remaining input.new) texts.0.items texts.1.items) }
     ensures err { IfErr result
-        (LacksInput (sources_of (S.known system.now) (I.is_reliable input.old)) inventory playbook (I.remaining input.old) (I.remaining input.new)) }
+        (InputUnreadable (sources_of (S.known system.now) (I.is_reliable input.old)) inventory playbook (I.remaining input.old) (I.remaining input.new)) }
     ensures stays { I.is_reliable input.new ≡ I.is_reliable input.old }
 {
     let inventory = match read_given(system, alloc, given, inventory, input) {

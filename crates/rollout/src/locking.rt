@@ -9,8 +9,8 @@ use crate::outputs::is_of;
 use crate::source::is_memory;
 use crate::system::System;
 use bounded_io::{Input, InputFault, read_input};
-use command_line::{Source, Wishes};
-use roll_core::Watch;
+use command_line::{Options, Source};
+use roll_core::Observer;
 use std::alloc::{AllocError, Global};
 
 const REPLACED: &[u8] =
@@ -26,7 +26,7 @@ pub enum Locking<'w> {
 }
 
 impl<'w> Locking<'w> {
-    pub(crate) fn of(wishes: &'w Wishes) -> Locking<'w> {
+    pub(crate) fn of(wishes: &'w Options) -> Locking<'w> {
         if wishes.is_unlocked {
             return Locking::Nothing;
         }
@@ -46,7 +46,7 @@ pub(crate) struct Held<L> {
 }
 
 /// Takes the lock. `watch` is told if the inventory has none: a pipe hasn't, and no file of some file systems.
-pub(crate) fn hold_lock<S: System, T: Watch>(
+pub(crate) fn hold_lock<S: System, T: Observer>(
     system: &S,
     alloc: Global,
     watch: &mut T,
@@ -64,7 +64,7 @@ pub(crate) fn hold_lock<S: System, T: Watch>(
     }
 }
 
-fn hold_inventory<S: System, T: Watch>(
+fn hold_inventory<S: System, T: Observer>(
     system: &S,
     alloc: Global,
     watch: &mut T,
@@ -113,7 +113,7 @@ fn held_unread<L>(lock: Option<L>) -> Held<L>
     }
 }
 
-fn without_lock<L, T: Watch>(watch: &mut T) -> Held<L>
+fn without_lock<L, T: Observer>(watch: &mut T) -> Held<L>
     ensures unread { result.given ≡ Given.Nothing }
     ensures lock { result.lock ≡ None }
 {
@@ -135,7 +135,7 @@ fn hold_made<S: System>(system: &S, alloc: Global, name: &str) -> Result<Held<S:
 }
 
 /// Tells behind all else if the name of the locked file leads to another file by now, as after `mv` or `sed -i`: a second run was not kept out.
-pub(crate) fn tell_replaced<S: System, T: Watch>(
+pub(crate) fn report_replaced<S: System, T: Observer>(
     system: &S,
     alloc: Global,
     watch: &mut T,

@@ -2,18 +2,17 @@
 #![tactic(auto)]
 
 mod advice;
-mod attendant;
-mod awaited;
 mod call;
 mod children;
 mod commands;
 mod detail;
+mod dispatch;
 mod ending;
 mod explanation;
 mod fault;
 mod fault_line;
 mod folder;
-mod helper;
+mod hint_source;
 mod holder;
 mod inputs;
 mod list;
@@ -24,29 +23,30 @@ mod program;
 mod row;
 mod source;
 mod status;
+mod stdin_notice;
+mod stop_file_watch;
 mod system;
 mod text_rows;
-mod wished;
 mod words;
 
-use crate::awaited::tell_what_is_awaited;
 use crate::program::run;
+use crate::stdin_notice::report_what_is_awaited;
 use crate::system::Host;
 use bounded_io::Fallible;
-use local_programs::{LocalPrograms, Notes, System, occupy_standard};
+use local_runner::{LocalPrograms, ReporterInbox, System, occupy_standard};
 use roll_core::History;
+use run_progress::{ProgressReporter, ReportProgress};
 use std::io;
 use std::io::{IsTerminal, Stderr, Stdin, Stdout};
 use std::process::ExitCode;
-use telling::{Tell, Teller};
 
 fn main(rt: HostRuntime) -> ExitCode {
     occupy_standard();
     let errors = rt.stderr();
-    tell_what_is_awaited(&rt, rt.stdin(), errors);
-    let notes = Notes::new(rt.alloc());
+    report_what_is_awaited(&rt, rt.stdin(), errors);
+    let notes = ReporterInbox::new(rt.alloc());
     let programs = LocalPrograms::new(System::new(&rt), &notes);
-    let mut teller = Teller::new(&rt, rt.alloc(), &notes, io::writer(&errors));
+    let mut teller = ProgressReporter::new(&rt, rt.alloc(), &notes, io::writer(&errors));
     let prompts = prompts_of(rt.stdin(), rt.stdout(), errors);
     let (code, _history) = run(
         &Host::new(&rt, rt.stdout(), errors, prompts),

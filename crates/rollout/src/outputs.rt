@@ -7,7 +7,7 @@ use crate::fault::Fault;
 use crate::system::System;
 use bounded_io::InputFault;
 use command_line::command::Line;
-use command_line::{Source, Wishes};
+use command_line::{Options, Source};
 use std::alloc::Global;
 
 /// Why the name of a file is refused: it would be written and is an input, or a stop file could never be seen there.
@@ -15,7 +15,7 @@ pub(crate) fn refused_name<S: System>(
     system: &S,
     alloc: Global,
     line: &Line,
-    wishes: &Wishes,
+    wishes: &Options,
 ) -> Option<Fault>
     ensures { IfSome result (RefusesName (wish_as wishes.now)) }
 {
@@ -48,7 +48,7 @@ fn unseen(alloc: Global, name: &String) -> Fault
 }
 
 /// Why a line is refused that writes one of its own inputs: the same file, whatever its name.
-fn overwriting<S: System>(system: &S, alloc: Global, line: &Line, wishes: &Wishes) -> Option<Fault>
+fn overwriting<S: System>(system: &S, alloc: Global, line: &Line, wishes: &Options) -> Option<Fault>
     ensures { IfSome result (OverwritesOf (option_map string_bytes wishes.now.picture)) }
 {
     match &wishes.picture {

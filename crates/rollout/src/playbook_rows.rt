@@ -8,10 +8,10 @@ use crate::detail::Detail::{Number, Text};
 use crate::row::{name_row, no_row, path_row, row};
 use bounded_io::TextWriter;
 use cond::CondFault;
-use json_texts::Form;
-use missing_names::NoValue;
-use play_rules::{ConditionKey, PlayFault};
+use json_output::Form;
+use playbook_schema::{ConditionKey, PlayFault};
 use std::io::Write;
+use undefined_names::NoValue;
 
 #[tactic(auto, using(bounded_io::proofs::Pieces::pieces_of_text))]
 pub(crate) fn write_playbook_row<W: Write>(

@@ -9,28 +9,28 @@ ghost use Rattle.rollout.specs.Runs.{Acts, Attempts, Does, Performs, Runs, Start
 ghost use Rattle.rollout.specs.Systems.{sources_of};
 ghost use Rattle.rollout.specs.Watching.{IsWatchedAs};
 
-use crate::attendant::Attendant;
 use crate::commands::{check, explain, lint, print, state};
+use crate::dispatch::{limits_by, plan_or_rest, rehearse_by, run_by};
 use crate::ending::{Ended, Reporting, conclude, exit_code, form_of};
 use crate::fault::Fault;
-use crate::helper::Helper;
+use crate::hint_source::HintSource;
 use crate::outputs::refused_name;
 use crate::status::Status;
+use crate::stop_file_watch::StopFileWatch;
 use crate::system::System;
-use crate::wished::{limits_by, plan_or_rest, rehearse_by, run_by};
 use crate::words::{words_fault, words_of};
 use bounded_io::Input;
 use command_line::command::Line;
-use command_line::{Request, Wishes, request_of};
-use local_programs::Notes;
-use roll_core::{History, Runner, Watch};
-use roll_run::{Attend, Coordinator};
+use command_line::{Options, Request, request_of};
+use local_runner::ReporterInbox;
+use roll_core::{History, Observer, Runner};
+use roll_run::{Coordinator, StopControl};
+use run_progress::ReportProgress;
 use std::alloc::Global;
 use std::io::Write;
 use std::process::{ExitCode, Processes, SystemProcess};
 use std::sync::Wait;
 use std::thread::Threads;
-use telling::Tell;
 
 /// Does what the words say; a fault is reported on `errors`, and the exit status tells of it too. `tell` is told of a run, and whether the words
 /// ask for its lines. The history comes back with the logs of all rolls that were started behind those that it had: at no moment of any of them is a
@@ -40,7 +40,7 @@ pub fn run<
     S: System,
     H: Threads + Wait + Processes<Started = SystemProcess> + Sync,
     R: Runner,
-    T: Tell,
+    T: ReportProgress,
     I: Input,
     O: Write,
     E: Write,
@@ -49,7 +49,7 @@ pub fn run<
     rt: &H,
     alloc: Global,
     runner: &R,
-    notes: &Notes,
+    notes: &ReporterInbox,
     tell: &mut T,
     input: &mut I,
     out: &mut O,
@@ -70,7 +70,7 @@ fn perform<
     S: System,
     H: Threads + Wait + Processes<Started = SystemProcess> + Sync,
     R: Runner,
-    T: Tell,
+    T: ReportProgress,
     I: Input,
     O: Write,
 >(
@@ -78,7 +78,7 @@ fn perform<
     rt: &H,
     alloc: Global,
     runner: &R,
-    notes: &Notes,
+    notes: &ReporterInbox,
     tell: &mut T,
     input: &mut I,
     out: &mut O,
@@ -110,7 +110,7 @@ fn attempt<
     S: System,
     H: Threads + Wait + Processes<Started = SystemProcess> + Sync,
     R: Runner,
-    T: Tell,
+    T: ReportProgress,
     I: Input,
     O: Write,
 >(
@@ -118,7 +118,7 @@ fn attempt<
     rt: &H,
     alloc: Global,
     runner: &R,
-    notes: &Notes,
+    notes: &ReporterInbox,
     tell: &mut T,
     words: &[String],
     input: &mut I,
@@ -131,13 +131,13 @@ fn attempt<
     match request_of(alloc, words) {
         Ok(Request { line, wishes }) => {
             begin_telling(system, tell, &line, &wishes);
-            let attend = Attendant::new(system, notes, &wishes.stop_file);
+            let attend = StopFileWatch::new(system, notes, &wishes.stop_file);
             let coordinator = Coordinator {
                 rt,
                 alloc,
                 attend: &attend,
             };
-            let helper = Helper::new(system, alloc, &line, &wishes);
+            let helper = HintSource::new(system, alloc, &line, &wishes);
             let (outcome, history) = act(
                 system,
                 &coordinator,
@@ -161,7 +161,12 @@ fn attempt<
 }
 
 /// From now on a run is told of, and a plan and where a run stands, which have more to tell of than what they print.
-fn begin_telling<S: System, T: Tell>(system: &S, tell: &mut T, line: &Line, wishes: &Wishes)
+fn begin_telling<S: System, T: ReportProgress>(
+    system: &S,
+    tell: &mut T,
+    line: &Line,
+    wishes: &Options,
+)
     ensures { IsWatchedAs T.tells_as (wish_as wishes.now) tell.old tell.new line.now }
 {
     match line {
@@ -182,8 +187,8 @@ fn act<
     S: System,
     H: Threads + Wait + Processes<Started = SystemProcess> + Sync,
     R: Runner,
-    A: Attend,
-    T: Watch,
+    A: StopControl,
+    T: Observer,
     I: Input,
     O: Write,
 >(
@@ -192,7 +197,7 @@ fn act<
     runner: &R,
     watch: &mut T,
     line: Line,
-    wishes: &Wishes,
+    wishes: &Options,
     input: &mut I,
     out: &mut O,
     history: History,
@@ -222,8 +227,8 @@ fn follow<
     S: System,
     H: Threads + Wait + Processes<Started = SystemProcess> + Sync,
     R: Runner,
-    A: Attend,
-    T: Watch,
+    A: StopControl,
+    T: Observer,
     I: Input,
     O: Write,
 >(
@@ -232,7 +237,7 @@ fn follow<
     runner: &R,
     watch: &mut T,
     line: Line,
-    wishes: &Wishes,
+    wishes: &Options,
     input: &mut I,
     out: &mut O,
     history: History,

@@ -8,7 +8,7 @@ ghost use Rattle.rollout.specs.FaultRows as rows;
 use crate::detail::Detail::Text;
 use crate::detail::{Detail, write_details};
 use bounded_io::TextWriter;
-use json_texts::Form;
+use json_output::Form;
 use std::io::Write;
 
 /// A row of the table: the name of a fault, and its details in their order.

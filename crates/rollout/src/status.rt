@@ -2,12 +2,12 @@
 ghost use Rattle.std.specs.Prelude.{◌≡◌};
 ghost use Rattle.rollout.specs.Status.{code_of};
 
-use note_lines::LintEnd;
+use command_preview::WordsEnd;
+use lint_rules::LintEnd;
 use plan_check::CheckEnd;
-use planning::End;
-use rehearsing::CourseEnd;
-use running::RunEnd;
-use step_words::WordsEnd;
+use plan_command::End;
+use rehearse::CourseEnd;
+use run_command::RunEnd;
 
 /// The end of the program, as its exit status tells it.
 #[derive(Clone, Copy, Debug, PartialEq, Eq)]

@@ -8,20 +8,20 @@ ghost use Rattle.rollout.specs.Watching.{IsSeenSo};
 use crate::folder::folder_of;
 use crate::holder::FileId;
 use bounded_io::{Fallible, Input};
-use command_line::Wishes;
-use keeping::{Disk, Shelf};
-use rehearsing::Prompt;
+use command_line::Options;
+use journal_writer::{DurableFile, JournalStore};
+use rehearse::Prompt;
+use run_progress::{Seen, width};
 use std::env::{Env, FillError};
 use std::fs::OpenFile;
 use std::io::{IsTerminal, Read, Stderr, Stdout, Write};
 use std::os::unix::fs::{MetadataExt, OpenOptionsExt};
 use std::process::{Processes, SystemProcess};
 use std::{env, fs, io};
-use telling::{Seen, width};
 
 /// A system, by the words and the files that it gives. What holds of each system that says what it gives holds of the real
 /// one, of which nothing is known beforehand.
-pub trait System: Prompt + Shelf {
+pub trait System: Prompt + JournalStore {
     type File: Input + Drop;
 
     ghost words: { Self → Known (List (List ℕ)) } = { λ _. None };
@@ -70,7 +70,7 @@ pub trait System: Prompt + Shelf {
     fn may_appear(&self, name: &str) -> bool;
 
     /// How what is told is seen, by what was asked for. How wide the lines may be is asked for where one may be drawn.
-    fn seen(&self, wishes: &Wishes, draws: bool) -> Seen
+    fn seen(&self, wishes: &Options, draws: bool) -> Seen
         ensures { IsSeenSo (wish_as wishes.now) draws result };
 
     ghost may_watch: { Self → Bool } = { λ _. true };
@@ -135,7 +135,7 @@ impl<F: Write> Write for OnDisk<F> {
     }
 }
 
-impl<F: Write + OpenFile + Drop> Disk for OnDisk<F> {
+impl<F: Write + OpenFile + Drop> DurableFile for OnDisk<F> {
     ghost is_on_disk = { λ _. Unit {0} };
 
     fn sync(&self) -> io::Result<()> {
@@ -151,7 +151,7 @@ fn lock_new(file: &fs::File) -> io::Result<()> {
     }
 }
 
-impl<R: fs::Files<File = fs::File>> Shelf for Host<'_, R> {
+impl<R: fs::Files<File = fs::File>> JournalStore for Host<'_, R> {
     type Journal = OnDisk<R::File>;
 
     ghost is_new = { λ _ _. Unit {0} };
@@ -240,7 +240,7 @@ impl<R: Env + fs::Files<File = fs::File> + AllocGlobal + Processes<Started = Sys
         has_folder && !name.is_empty() && fs::exists(self.rt, name).is_ok()
     }
 
-    fn seen(&self, wishes: &Wishes, draws: bool) -> Seen {
+    fn seen(&self, wishes: &Options, draws: bool) -> Seen {
         let is_terminal = self.errors.is_terminal();
         let is_dumb = is_dumb(self.rt);
         let width = if draws && is_terminal && !is_dumb && !wishes.is_verbose && !wishes.is_quiet {

@@ -13,7 +13,7 @@ use command_line::{LineFault, Source};
 use domains::{FleetFault, PatternFault};
 use expectations::{Relation, Unexpected};
 use inventory_read::ReadFault;
-use json_texts::Form;
+use json_output::Form;
 use std::io::Write;
 
 #[tactic(auto, using(bounded_io::proofs::Pieces::pieces_of_text))]

@@ -1,15 +1,15 @@
 //! What a fleet answers. None of these calls takes memory.
 ghost use Rattle.std.specs.Prelude.{◌≡◌, ℕ, ◌<◌, ◌≤◌, ◌&&◌, All, IfSome, IsFalse, MatchOption, None, false, true, length, nat_eq, option_map, position, slice_index_or};
 ghost use Rattle.group_tree.specs.Names.{is_among, same_name};
-ghost use Rattle.fleet_numbers.specs.NumberLists.{list_at, has_number, IsRising};
-ghost use Rattle.fleet_numbers.specs.Chains.{is_limited};
+ghost use Rattle.fleet_index.specs.NumberLists.{list_at, has_number, IsRising};
+ghost use Rattle.fleet_index.specs.Chains.{is_limited};
 ghost use Rattle.domains.specs.Numbered.{host_at};
 ghost use Rattle.domains.specs.Ids.{host_numbers, group_numbers};
 ghost use Rattle.domains.specs.FleetViews.{AreAmong, IsSound, down_at_start, off_count};
 
 use crate::fleet::Fleet;
 use crate::starts::count_off;
-use fleet_numbers::find_name;
+use fleet_index::find_name;
 use group_tree::{GroupId, HostId};
 
 impl Fleet {

@@ -4,7 +4,7 @@ ghost use Rattle.std.specs.List.{list_all};
 ghost use Rattle.fleet_states.specs.declared.status.Status.TheVariants.{Held};
 ghost use Rattle.domains.specs.Ids.{host_numbers};
 ghost use Rattle.fleet_states.specs.Statuses.{are_ready, changed};
-ghost use Rattle.fleet_states.specs.Groups.{groups_of, is_stuck};
+ghost use Rattle.fleet_states.specs.Groups.{groups_of, lacks_room};
 ghost use Rattle.down_ledger.specs.Unfit.{IsFirstWithRoom};
 
 use crate::roster::Roster;
@@ -15,7 +15,7 @@ impl<'f> Roster<'f> {
     pub fn test_stuck(&self, hosts: &[HostId]) -> Result<(), HostId>
         requires { IsTrue (are_ready self.now.statuses (host_numbers hosts.now)) }
         ensures { MatchResult result
-            (λ _. IsTrue (list_all (is_stuck (groups_of self.now.fleet) self.now.statuses) (host_numbers hosts.now)))
+            (λ _. IsTrue (list_all (lacks_room (groups_of self.now.fleet) self.now.statuses) (host_numbers hosts.now)))
             (λ host. IsFirstWithRoom (groups_of self.now.fleet) self.now.statuses (host_numbers hosts.now) host.index) }
     {
         for place in 0..hosts.len() {

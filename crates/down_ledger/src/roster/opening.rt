@@ -1,6 +1,6 @@
 //! A batch is taken down host by host, or not at all.
 ghost use Rattle.std.specs.Prelude.{◌≡◌, ℕ, true, false, IsTrue, MatchResult, length};
-ghost use Rattle.fleet_numbers.specs.NumberLists.{has_number};
+ghost use Rattle.fleet_index.specs.NumberLists.{has_number};
 ghost use Rattle.fleet_states.specs.declared.status.Status.TheVariants.{Running, Waiting};
 ghost use Rattle.domains.specs.Ids.{host_numbers};
 ghost use Rattle.fleet_states.specs.Statuses.{are_distinct, are_ready};

@@ -1,6 +1,6 @@
 //! A batch begins.
 ghost use Rattle.std.specs.Prelude.{◌≡◌, IsTrue, length};
-ghost use Rattle.fleet_numbers.specs.NumberLists.{are_below};
+ghost use Rattle.fleet_index.specs.NumberLists.{are_below};
 ghost use Rattle.domains.specs.Ids.{host_numbers};
 ghost use Rattle.event_log.specs.Rolls.{Roll};
 ghost use Rattle.event_log.specs.Events.{opened};
@@ -8,7 +8,7 @@ ghost use Rattle.event_log.specs.States.{State, between};
 ghost use Rattle.event_log.specs.Logs.{next};
 ghost use Rattle.event_log.specs.Works.{IsFresh, IsWorkOf};
 
-use crate::line::line_up;
+use crate::due_queue::enqueue_due;
 use crate::stage::Stage;
 use crate::work::BatchWork;
 use group_tree::HostId;
@@ -24,7 +24,7 @@ impl<'p> BatchWork<'p> {
         self.batch = batch;
         self.line = line;
         self.stage = Stage::Working(0);
-        self.next = line_up(
+        self.next = enqueue_due(
             self.play,
             0,
             self.summaries.as_slice(),

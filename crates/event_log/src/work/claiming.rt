@@ -5,11 +5,11 @@ ghost use Rattle.event_log.specs.States.{State};
 ghost use Rattle.event_log.specs.Works.{IsClaim, IsWorkOf};
 
 use crate::asked::copy_of;
-use crate::given::given_of;
+use crate::assignment::Assignment;
 use crate::stage::Stage;
-use crate::taken::Taken;
 use crate::turn::Turn;
 use crate::work::BatchWork;
+use crate::work_item::given_of;
 use group_tree::HostId;
 use host_track::step_at;
 use std::alloc::{AllocError, Global};
@@ -18,7 +18,7 @@ impl<'p> BatchWork<'p> {
     /// Hands out the next host on which the present step is due and that nobody has taken, with what the step asks of it, and
     /// makes a place for its result; nothing where there is none, or where so many are out. Want of memory leaves all that others
     /// see as it was.
-    pub fn claim(&mut self, alloc: Global, forks: usize) -> Result<Option<Taken>, AllocError>
+    pub fn claim(&mut self, alloc: Global, forks: usize) -> Result<Option<Assignment>, AllocError>
         ensures ok { (roll : Roll) (state : State) → IsWorkOf roll state self.old → roll.forks ≡ forks → IfOk result (IsClaim roll state self.new) }
         ensures err { (roll : Roll) (state : State) → IsWorkOf roll state self.old → OnErr result (IsWorkOf roll state self.new) }
     {
@@ -38,7 +38,7 @@ impl<'p> BatchWork<'p> {
         self.turns[host.index] = Turn::Out(copy);
         self.next += 1;
         self.out += 1;
-        Ok(Some(Taken { host, step, given }))
+        Ok(Some(Assignment { host, step, given }))
     }
 }
 

@@ -1,6 +1,6 @@
 //! A batch passes a step.
 ghost use Rattle.std.specs.Prelude.{◌≡◌, ℕ, suc, true, false, [], find, option_map, ◌<◌, ◌≤◌, ◌^◌, length, count_by};
-ghost use Rattle.fleet_numbers.specs.NumberLists.{has_number};
+ghost use Rattle.fleet_index.specs.NumberLists.{has_number};
 ghost use Rattle.domains.specs.Ids.{host_numbers};
 ghost use Rattle.event_log.specs.Rolls.{Roll};
 ghost use Rattle.event_log.specs.Events.{passed};
@@ -11,7 +11,7 @@ ghost use Rattle.event_log.specs.declared.stage.Stage.TheVariants.{Working};
 ghost use Rattle.event_log.specs.Turns.{awaits, failed_at, is_within, turn_at};
 ghost use Rattle.event_log.specs.Works.{IsWorkOf, phase_by, phase_of};
 
-use crate::line::line_up;
+use crate::due_queue::enqueue_due;
 use crate::stage::Stage;
 use crate::turn::Turn;
 use crate::work::BatchWork;
@@ -53,7 +53,7 @@ impl<'p> BatchWork<'p> {
         let failures = failures_in(self.summaries.as_slice(), self.batch.as_slice());
         self.stage = stage_after(self.play, step, failures, self.batch.len());
         if let Stage::Working(later) = self.stage {
-            self.next = line_up(
+            self.next = enqueue_due(
                 self.play,
                 later,
                 self.summaries.as_slice(),

@@ -7,7 +7,7 @@ use crate::stage::Stage;
 use crate::turn::Turn;
 use crate::work::BatchWork;
 use group_tree::HostId;
-use host_track::{Asked, Summary};
+use host_track::{StepRequest, Summary};
 
 impl<'p> BatchWork<'p> {
     pub fn stage(&self) -> Stage
@@ -39,7 +39,7 @@ impl<'p> BatchWork<'p> {
     }
 
     /// What was given out for a host that is taken and has not reported.
-    pub fn given(&self, host: HostId) -> Option<&Asked>
+    pub fn given(&self, host: HostId) -> Option<&StepRequest>
         ensures { MatchOption result (is_out (turn_at self.now.turns.items host.index) ≡ false)
             (λ asked. turn_at self.now.turns.items host.index ≡ Out asked.now) }
     {

@@ -8,14 +8,14 @@ use crate::front::Front;
 use crate::given::Given;
 use crate::step::Step;
 use crate::ticket::Ticket;
-use roll_core::{Runner, Watch};
+use roll_core::{Observer, Runner};
 use std::alloc::Global;
 use std::sync::Wait;
 use std::sync::ledger::Ledger;
 
 impl<'f, R: Runner> Front<'f, R> {
     /// Puts a ticket for each host that can be claimed now.
-    pub(crate) fn give_out<L: Ledger, H: Wait, W: Watch>(
+    pub(crate) fn give_out<L: Ledger, H: Wait, W: Observer>(
         &mut self,
         rt: &H,
         alloc: Global,
@@ -36,7 +36,7 @@ impl<'f, R: Runner> Front<'f, R> {
     }
 
     /// False is told where nothing is left to give out.
-    fn give_one<L: Ledger, H: Wait, W: Watch>(
+    fn give_one<L: Ledger, H: Wait, W: Observer>(
         &mut self,
         rt: &H,
         alloc: Global,
@@ -59,7 +59,7 @@ impl<'f, R: Runner> Front<'f, R> {
     }
 
     /// The line has room for as many tickets as may be out. One for which there was none is stranded.
-    fn put<L: Ledger, H: Wait, W: Watch>(
+    fn put<L: Ledger, H: Wait, W: Observer>(
         &mut self,
         rt: &H,
         step: &mut Step<'_, R, L, W>,
@@ -78,7 +78,7 @@ impl<'f, R: Runner> Front<'f, R> {
     }
 
     /// Where something went wrong, the tickets come back that no worker has taken.
-    pub(crate) fn call_back_if_stopped<L: Ledger, H: Wait, W: Watch>(
+    pub(crate) fn call_back_if_stopped<L: Ledger, H: Wait, W: Observer>(
         &mut self,
         rt: &H,
         step: &mut Step<'_, R, L, W>,
@@ -95,7 +95,7 @@ impl<'f, R: Runner> Front<'f, R> {
     }
 
     /// Takes the tickets back that no worker has taken.
-    pub(crate) fn call_back<L: Ledger, H: Wait, W: Watch>(
+    pub(crate) fn call_back<L: Ledger, H: Wait, W: Observer>(
         &mut self,
         rt: &H,
         step: &mut Step<'_, R, L, W>,

@@ -8,7 +8,7 @@ ghost use Rattle.fork_pool.specs.Steps.{Continues, FrontsHaveFewOut, IsAtRest, I
 use crate::fault::StepFault;
 use crate::front::Front;
 use crate::step::Step;
-use roll_core::{Board, Runner, Watch};
+use roll_core::{Board, Observer, Runner};
 use std::alloc::Global;
 use std::sync::Wait;
 use std::sync::ledger::Ledger;
@@ -16,7 +16,7 @@ use std::sync::ledger::Ledger;
 impl<'f, R: Runner> Front<'f, R> {
     /// Works on the present step of the board until each host on which it is due has reported it, with the workers of the pool. The pool may
     /// outlive the board.
-    pub fn step<'b, L: Ledger, H: Wait, W: Watch>(
+    pub fn step<'b, L: Ledger, H: Wait, W: Observer>(
         &mut self,
         rt: &H,
         alloc: Global,
@@ -35,12 +35,12 @@ impl<'f, R: Runner> Front<'f, R> {
         ensures line { IsSameLine self.old.tickets self.new.tickets }
     {
         let mut step = Step::begin(board);
-        self.go_on(rt, alloc, &mut step);
+        self.resume(rt, alloc, &mut step);
         step.end()
     }
 
     /// Until nothing is left to put, and each ticket that was put has come back, or no reply can come any more.
-    fn go_on<'b, L: Ledger, H: Wait, W: Watch>(
+    fn resume<'b, L: Ledger, H: Wait, W: Observer>(
         &mut self,
         rt: &H,
         alloc: Global,
@@ -63,7 +63,7 @@ impl<'f, R: Runner> Front<'f, R> {
     }
 
     /// Puts what can be put, and enters one reply. False is told where none is to come.
-    fn turn<'b, L: Ledger, H: Wait, W: Watch>(
+    fn turn<'b, L: Ledger, H: Wait, W: Observer>(
         &mut self,
         rt: &H,
         alloc: Global,
@@ -86,7 +86,7 @@ impl<'f, R: Runner> Front<'f, R> {
     }
 
     /// Waits for a reply, and enters it. False is told where no worker is left to reply: the tickets that are left come back.
-    fn receive<'b, L: Ledger, H: Wait, W: Watch>(
+    fn receive<'b, L: Ledger, H: Wait, W: Observer>(
         &mut self,
         rt: &H,
         step: &mut Step<'b, R, L, W>,

@@ -2,12 +2,12 @@
 ghost use Rattle.fork_pool.specs.ScriptLaws.{IsByItsScript};
 
 use crate::script::Script;
-use roll_core::{Board, Watch};
+use roll_core::{Board, Observer};
 use std::sync::ledger::Ledger;
 
 /// The log of a board over a script tells what the script says, and a batch of it ends as each of its hosts does by itself on that, at any
 /// number of forks and in any order of reports.
-pub fn batches_end_by_their_script<L: Ledger, W: Watch>(board: &Board<'_, Script, L, W>)
+pub fn batches_end_by_their_script<L: Ledger, W: Observer>(board: &Board<'_, Script, L, W>)
     ensures { IsByItsScript board.now }
 {
     let _log = board.log();

@@ -11,14 +11,14 @@ ghost use Rattle.roll_core.specs.Boards.{with_event};
 
 use crate::board::Board;
 use crate::kernel_fault::Busy;
-use crate::news::{News, halt_of};
 use crate::next::Next;
+use crate::notification::{Notification, halt_of};
+use crate::observer::Observer;
 use crate::runner::Runner;
 use crate::telling::tell;
-use crate::watch::Watch;
 use std::sync::ledger::Ledger;
 
-impl<'f, R: Runner, L: Ledger, W: Watch> Board<'f, R, L, W> {
+impl<'f, R: Runner, L: Ledger, W: Observer> Board<'f, R, L, W> {
     /// Passes the present step once each host of the batch on which it is due has reported it; else names the first that has not, and
     /// changes nothing. Time linear in the batch; it takes no memory.
     pub fn barrier(&mut self) -> Result<Next, Busy>
@@ -43,7 +43,7 @@ impl<'f, R: Runner, L: Ledger, W: Watch> Board<'f, R, L, W> {
         ensures statuses { (columns : Columns) (halt : Option ℕ) → Tells columns (roll_of self.old.kernel) self.old.kernel.log → (state_of self.old.kernel).phase ≡ ended halt
             → (state_of self.new.kernel).statuses ≡ statuses_after halt (fails_by (roll_of self.old.kernel) columns) (state_of self.old.kernel).batch (state_of self.old.kernel).opening }
     {
-        let news = News::Closing {
+        let news = Notification::Closing {
             batch: self.kernel.batch(),
             statuses: self.kernel.statuses(),
             halt: halt_of(self.kernel.stage()),

@@ -10,11 +10,11 @@ ghost use Rattle.roll_core.specs.Tellings.{IsTold};
 use crate::board::Board;
 use crate::finished::Finished;
 use crate::history::History;
+use crate::observer::Observer;
 use crate::runner::Runner;
-use crate::watch::Watch;
 use std::sync::ledger::Ledger;
 
-impl<'f, R: Runner, L: Ledger, W: Watch> Board<'f, R, L, W> {
+impl<'f, R: Runner, L: Ledger, W: Observer> Board<'f, R, L, W> {
     /// Hands out what is left of each host, also while a batch is open: its hosts are down then. The watcher, which comes back, has heard what is
     /// told of the log from some moment on, and nothing else since; and the history has the log behind those that it had. It takes no memory.
     pub fn finish(self) -> (Finished, W, History)

@@ -5,13 +5,13 @@ ghost use Rattle.roll_core.specs.Givings.{HasItsGo, IsGiving};
 use crate::board::Board;
 use crate::claim::Claim;
 use crate::claimed::{Claimed, given_out};
+use crate::observer::Observer;
 use crate::runner::Runner;
-use crate::telling::tell_begin;
-use crate::watch::Watch;
+use crate::telling::report_begin;
 use std::alloc::{AllocError, Global};
 use std::sync::ledger::Ledger;
 
-impl<'f, R: Runner, L: Ledger, W: Watch> Board<'f, R, L, W> {
+impl<'f, R: Runner, L: Ledger, W: Observer> Board<'f, R, L, W> {
     /// Hands out the next host of the batch on which the present step is due and that nobody has taken, with its share, its job and the
     /// leave to run it once, or with how the step ended where no program is to run; none where there is no such host, where no batch is
     /// at a step, or where as many claims are out as there are forks. Want of memory leaves everything as it was.
@@ -24,7 +24,7 @@ impl<'f, R: Runner, L: Ledger, W: Watch> Board<'f, R, L, W> {
         let Some(handed) = self.kernel.claim(alloc)? else {
             return Ok(None);
         };
-        tell_begin(&mut self.watch, &self.kernel, &handed);
+        report_begin(&mut self.watch, &self.kernel, &handed);
         Ok(Some(given_out(handed, runner)))
     }
 

@@ -11,15 +11,15 @@ ghost use Rattle.roll_core.specs.Boards.{with_event};
 
 use crate::board::Board;
 use crate::kernel_fault::{HoldFault, OpenFault};
-use crate::news::News;
+use crate::notification::Notification;
+use crate::observer::Observer;
 use crate::runner::Runner;
 use crate::telling::tell;
-use crate::watch::Watch;
 use group_tree::HostId;
 use std::alloc::Global;
 use std::sync::ledger::Ledger;
 
-impl<'f, R: Runner, L: Ledger, W: Watch> Board<'f, R, L, W> {
+impl<'f, R: Runner, L: Ledger, W: Observer> Board<'f, R, L, W> {
     /// Begins a batch at the first step: its hosts are down from now on, and the closing brings those up that neither failed nor were halted. A refusal
     /// leaves everything as it was.
     pub fn open(&mut self, alloc: Global, hosts: &[HostId]) -> Result<(), OpenFault>
@@ -32,7 +32,7 @@ impl<'f, R: Runner, L: Ledger, W: Watch> Board<'f, R, L, W> {
     {
         match self.kernel.open(alloc, hosts) {
             Ok(()) => {
-                let news = News::Opening {
+                let news = Notification::Opening {
                     batch: hosts,
                     statuses: self.kernel.statuses(),
                 };
@@ -53,7 +53,11 @@ impl<'f, R: Runner, L: Ledger, W: Watch> Board<'f, R, L, W> {
     {
         match self.kernel.hold(alloc, hosts) {
             Ok(()) => {
-                tell(&mut self.watch, &self.kernel, &News::Aside { hosts });
+                tell(
+                    &mut self.watch,
+                    &self.kernel,
+                    &Notification::Aside { hosts },
+                );
                 Ok(())
             }
             Err(fault) => Err(fault),

@@ -14,8 +14,8 @@ ghost use Rattle.event_log.specs.Told.{AreTold};
 use crate::board::Board;
 use crate::event::Event;
 use crate::moment::Moment;
+use crate::observer::Observer;
 use crate::runner::Runner;
-use crate::watch::Watch;
 use domains::Fleet;
 use event_log::Stage;
 use fleet_states::Status;
@@ -25,7 +25,7 @@ use host_vars::Vars;
 use play_model::Play;
 use std::sync::ledger::Ledger;
 
-impl<'f, R: Runner, L: Ledger, W: Watch> Board<'f, R, L, W> {
+impl<'f, R: Runner, L: Ledger, W: Observer> Board<'f, R, L, W> {
     /// All events, the oldest first.
     pub fn log(&self) -> &[Event]
         ensures value { events_of result.now ≡ self.now.kernel.log }

@@ -8,13 +8,13 @@ ghost use Rattle.roll_core.specs.Reports.{IsStranger};
 use crate::board::Board;
 use crate::done::Done;
 use crate::fault::Stranger;
+use crate::observer::Observer;
 use crate::runner::Runner;
 use crate::tally::{Tally, count_one};
-use crate::telling::tell_row;
-use crate::watch::Watch;
+use crate::telling::report_row;
 use std::sync::ledger::Ledger;
 
-impl<'f, R: Runner, L: Ledger, W: Watch> Board<'f, R, L, W> {
+impl<'f, R: Runner, L: Ledger, W: Observer> Board<'f, R, L, W> {
     /// Enters how a step ended on a host, whose share rests until the batch is closed, and counts it in the tally. Where no claim of this
     /// host and step with these words, or this settled outcome, is out, or its runner isn't alike the board's, it hands the `Done` back and
     /// changes nothing. It takes no memory.
@@ -32,7 +32,7 @@ impl<'f, R: Runner, L: Ledger, W: Watch> Board<'f, R, L, W> {
         }
         let Done { completion, runner } = done;
         match self.kernel.report(completion) {
-            Ok(entered) => tell_row(&mut self.watch, &self.kernel, &entered),
+            Ok(entered) => report_row(&mut self.watch, &self.kernel, &entered),
             Err(back) => {
                 return Err(Stranger {
                     done: Done::of(back, runner),

@@ -3,12 +3,12 @@ ghost use Rattle.std.specs.Prelude.{◌≡◌, ◌+◌, ◌-◌, ◌<◌, suc};
 ghost use Rattle.roll_core.specs.Boards.{reports_in};
 
 use crate::board::Board;
+use crate::observer::Observer;
 use crate::runner::Runner;
 use crate::tally::Tally;
-use crate::watch::Watch;
 use std::sync::ledger::Ledger;
 
-impl<'f, R: Runner, L: Ledger, W: Watch> Board<'f, R, L, W> {
+impl<'f, R: Runner, L: Ledger, W: Observer> Board<'f, R, L, W> {
     /// A tally of no report, for a worker.
     pub fn split_tally(&mut self) -> Tally<L>
         requires { self.old.tallies < 128 }

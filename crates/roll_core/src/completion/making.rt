@@ -6,7 +6,7 @@ ghost use Rattle.roll_core.specs.Claims.{completion_of};
 
 use crate::claim::Claim;
 use crate::completion::Completion;
-use crate::way::Way;
+use crate::step_end::StepEnd;
 use group_tree::HostId;
 use host_track::Outcome;
 use std::alloc::{AllocError, Global};
@@ -27,7 +27,7 @@ impl Completion {
             Err(refused) => return Err((claim, refused)),
         };
         let Claim { share, job } = claim;
-        let way = Way::Program {
+        let way = StepEnd::Program {
             words: job.words,
             outcome,
         };

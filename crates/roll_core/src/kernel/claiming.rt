@@ -8,9 +8,9 @@ use crate::completion::Completion;
 use crate::event::Event;
 use crate::job::Job;
 use crate::kernel::{Kernel, keep};
-use crate::way::Way;
+use crate::step_end::StepEnd;
 use down_ledger::Share;
-use event_log::{Given, Taken};
+use event_log::{Assignment, WorkItem};
 use std::alloc::{AllocError, Global};
 
 impl<'f> Kernel<'f> {
@@ -39,21 +39,21 @@ impl<'f> Kernel<'f> {
 }
 
 /// What a worker is given, with the host's share.
-fn claimed(share: Share, taken: Taken) -> Handed
+fn claimed(share: Share, taken: Assignment) -> Handed
     requires host { share.host ≡ taken.host }
     requires row { HasRow taken.given }
     ensures { IsClaimedAs taken.host.index taken.step (request_of taken.given) result }
 {
-    let Taken { host, step, given } = taken;
+    let Assignment { host, step, given } = taken;
     match given {
-        Given::Job { words } => Handed::Run(Claim {
+        WorkItem::Job { words } => Handed::Run(Claim {
             share,
             job: Job { host, step, words },
         }),
-        Given::Settled { outcome, row } => Handed::Settled(Completion {
+        WorkItem::Settled { outcome, row } => Handed::Settled(Completion {
             share,
             step,
-            way: Way::Settled(outcome),
+            way: StepEnd::Settled(outcome),
             row,
         }),
     }

@@ -12,7 +12,7 @@ ghost use Rattle.roll_core.specs.Views.{roll_of, state_of, with_event};
 use crate::completion::Completion;
 use crate::event::Event;
 use crate::kernel::{Kernel, keep};
-use crate::way::is_asked;
+use crate::step_end::is_asked;
 use event_log::{BatchWork, Entered, Stage};
 use fleet_states::Status;
 

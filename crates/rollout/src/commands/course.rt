@@ -4,22 +4,22 @@ ghost use Rattle.rollout.specs.Courses.{Foresees, PrintsCourse, RefusesNamed};
 ghost use Rattle.rollout.specs.Systems.{sources_of};
 
 use crate::commands::drawing::Drawing;
-use crate::commands::plan::tell_behind;
+use crate::commands::plan::report_behind;
 use crate::fault::Fault;
 use crate::inputs::read_both;
 use crate::status::Status;
 use crate::system::System;
 use bounded_io::Input;
 use command_line::Source;
-use rehearsing::course_text;
-use roll_core::Watch;
+use rehearse::course_text;
+use roll_core::Observer;
 use std::alloc::Global;
 use std::io::Write;
 
 /// Reads the inventory and the playbook, and writes the course of the playbook's plays in which just the named hosts fail. `watch` is told of the hosts that the plays
 /// leave out.
 #[allow(clippy::too_many_arguments)]
-pub fn course<S: System, T: Watch, I: Input, W: Write>(
+pub fn course<S: System, T: Observer, I: Input, W: Write>(
     system: &S,
     alloc: Global,
     watch: &mut T,
@@ -39,7 +39,7 @@ pub fn course<S: System, T: Watch, I: Input, W: Write>(
             let playbook = playbook.as_slice();
             let printed = print_course(alloc, inventory, playbook, failing, out);
             if printed.is_ok() {
-                tell_behind(alloc, watch, usize::MAX, inventory, playbook);
+                report_behind(alloc, watch, usize::MAX, inventory, playbook);
                 drawing.draw(alloc, inventory, playbook);
             }
             printed

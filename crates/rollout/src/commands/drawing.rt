@@ -4,26 +4,26 @@ ghost use Rattle.std.specs.Result.{ForErr};
 ghost use Rattle.bounded_io.specs.Sending.{SendsText};
 ghost use Rattle.domains.specs.Ids.{group_numbers};
 ghost use Rattle.batch_plan.specs.Counts.{limited_groups};
-ghost use Rattle.course_picture.specs.PictureText.{picture_of_plays, picture_text};
-ghost use Rattle.course_picture.specs.Views.{picture_view};
-ghost use Rattle.rehearsing.specs.CourseSteps.{course_of};
+ghost use Rattle.forecast_svg.specs.PictureText.{picture_of_plays, picture_text};
+ghost use Rattle.forecast_svg.specs.Views.{picture_view};
+ghost use Rattle.rehearse.specs.CourseSteps.{course_of};
 ghost use Rattle.rollout.specs.Pictures.{IsOfPicture, boundaries_of};
 
 use crate::fault::Fault;
 use crate::system::System;
 use bounded_io::{InputFault, TextWriter, WriteFault};
-use command_line::{Source, Wishes};
-use course_picture::{Picture, list_limited, write_picture};
+use command_line::{Options, Source};
 use domains::Fleet;
+use forecast_svg::{Picture, list_limited, write_picture};
 use group_tree::GroupId;
-use planning::{read_fleet, read_known_plays};
-use play_course::Boundary;
-use rehearsing::{PlayCourse, foresee};
+use plan_command::{read_fleet, read_known_plays};
+use play_forecast::Boundary;
+use rehearse::{PlayCourse, foresee};
 use std::alloc::{AllocError, Global};
 use std::io::Write;
 
 /// The names of the hosts that fail in the course.
-fn failing_of(wishes: &Wishes) -> &str {
+fn failing_of(wishes: &Options) -> &str {
     match &wishes.forecast {
         Some(failing) => failing.as_str(),
         None => "",
@@ -34,13 +34,13 @@ fn failing_of(wishes: &Wishes) -> &str {
 #[derive(Drop)]
 pub struct Drawing<'s, 'w, S> {
     system: &'s S,
-    wishes: &'w Wishes,
+    wishes: &'w Options,
     outcome: Result<(), Fault>,
     ghost told: { ForErr outcome IsOfPicture },
 }
 
 impl<'s, 'w, S: System> Drawing<'s, 'w, S> {
-    pub fn new(system: &'s S, wishes: &'w Wishes) -> Drawing<'s, 'w, S> {
+    pub fn new(system: &'s S, wishes: &'w Options) -> Drawing<'s, 'w, S> {
         Drawing {
             system,
             wishes,

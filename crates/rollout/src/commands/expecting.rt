@@ -6,7 +6,7 @@ ghost use Rattle.rollout.specs.Expecting.{ExpectsPlan, ExpectsTable, PrintsPlan,
 ghost use Rattle.rollout.specs.Lists.{IsBadList};
 ghost use Rattle.rollout.specs.Systems.{sources_of};
 
-use crate::commands::plan::tell_behind;
+use crate::commands::plan::report_behind;
 use crate::fault::Fault;
 use crate::inputs::read_both;
 use crate::list::bad_list;
@@ -16,7 +16,7 @@ use crate::system::System;
 use bounded_io::Input;
 use command_line::Source;
 use expectations::{Expectation, ListFault, expected_limits, expected_plan, read_expectations};
-use roll_core::Watch;
+use roll_core::Observer;
 use std::alloc::Global;
 use std::io::Write;
 
@@ -72,7 +72,7 @@ fn print_limits<W: Write>(
 /// Reads the inventory and the playbook, and writes the plan of the playbook's first play; then the first number that isn't as the list says is told. The list is read first. `watch` is
 /// told of the hosts that the plan leaves out.
 #[allow(clippy::too_many_arguments)]
-pub fn plan_expecting<S: System, T: Watch, I: Input, W: Write>(
+pub fn plan_expecting<S: System, T: Observer, I: Input, W: Write>(
     system: &S,
     alloc: Global,
     watch: &mut T,
@@ -95,7 +95,7 @@ pub fn plan_expecting<S: System, T: Watch, I: Input, W: Write>(
             let playbook = playbook.as_slice();
             let printed = print_plan(alloc, inventory, playbook, expected.as_slice(), out);
             if printed.is_ok() {
-                tell_behind(alloc, watch, 1, inventory, playbook);
+                report_behind(alloc, watch, 1, inventory, playbook);
             }
             printed
         }

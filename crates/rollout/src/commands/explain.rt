@@ -4,7 +4,7 @@ ghost use Rattle.rollout.specs.Pages.{Explains};
 use crate::commands::print::print;
 use crate::fault::Fault;
 use crate::status::Status;
-use command_line::{Clash, LineFault};
+use command_line::{LineFault, OptionConflict};
 use hints::entry_of;
 use std::io::Write;
 
@@ -14,6 +14,6 @@ pub fn explain<W: Write>(word: &str, out: &mut W) -> Result<Status, Fault>
 {
     match entry_of(word) {
         Some(entry) => print(entry, out),
-        None => Err(Fault::Line(LineFault::Apart(Clash::NoEntry))),
+        None => Err(Fault::Line(LineFault::Apart(OptionConflict::NoEntry))),
     }
 }

@@ -1,8 +1,8 @@
 //! What `lint` tells of texts that are refused: all their faults.
 ghost use Rattle.std.specs.Prelude.{◌≡◌, ◌+◌, ◌++◌, ◌⊎◌, IfErr, IfNone, IfOk, IfSome, OnOk, length, map, string_bytes, take};
 ghost use Rattle.std.specs.Option.{option_map};
-ghost use Rattle.every_fault.specs.Every.{IsEveryFault};
-ghost use Rattle.json_texts.specs.declared.form.Form.TheVariants.{Plain};
+ghost use Rattle.all_faults.specs.Every.{IsEveryFault};
+ghost use Rattle.json_output.specs.declared.form.Form.TheVariants.{Plain};
 ghost use Rattle.rollout.specs.Endings.{fault_text, help_text};
 ghost use Rattle.rollout.specs.LintFaults.{AreFaultless, IsFound, LosesFaults, LosesFound, PrintsFaults, ShowsFaults, WantsMemory, WritesEach, WritesTold, count_line};
 ghost use Rattle.rollout.specs.LintFaults as spec;
@@ -14,13 +14,13 @@ use crate::ending::write_help;
 use crate::fault::Fault;
 use crate::fault_line::write_fault;
 use crate::status::Status;
+use all_faults::{EveryFault, list_all_faults};
 use bounded_io::TextWriter;
 use cond::span::split;
 use domains::{FleetFault, PatternFault};
-use every_fault::{EveryFault, every_fault};
 use inventory_read::ReadFault;
-use json_texts::Form;
-use play_rules::PlayFault;
+use json_output::Form;
+use playbook_schema::PlayFault;
 use recap::write_field;
 use std::alloc::{AllocError, Global};
 use std::io::Write;
@@ -44,7 +44,7 @@ pub(crate) fn find_faults(
     ensures some { IfOk result (λ found. IfSome found (IsFound inventory.now (option_map (λ text. text.now) playbook.entry))) }
     ensures none { IfOk result (λ found. IfNone found (AreFaultless inventory.now (option_map (λ text. text.now) playbook.entry))) }
 {
-    let all = match every_fault(alloc, inventory, playbook, MOST_FAULTS) {
+    let all = match list_all_faults(alloc, inventory, playbook, MOST_FAULTS) {
         Ok(all) => all,
         Err(refused) => return Err(refused),
     };
@@ -126,7 +126,7 @@ fn pattern_faults(alloc: Global, told: Vec<PatternFault>) -> Result<Vec<Fault>, 
 }
 
 /// Writes the faults, up to a hundred, each with a hint, and how many there are.
-pub(crate) fn tell_faults<W: Write>(
+pub(crate) fn report_faults<W: Write>(
     alloc: Global,
     found: &Found,
     inventory: &[u8],

@@ -5,30 +5,30 @@ ghost use Rattle.rollout.specs.Groups.{IsPaintOf, PrintsGroups, RefusesGroups, S
 ghost use Rattle.rollout.specs.Systems.{sources_of};
 
 use crate::commands::drawing::Drawing;
-use crate::commands::plan::tell_behind;
+use crate::commands::plan::report_behind;
 use crate::fault::Fault;
 use crate::inputs::read_both;
 use crate::status::Status;
 use crate::system::System;
 use bounded_io::Input;
-use command_line::{Source, Wishes};
-use group_table::Paint;
-use plan_groups::{surveyed_course, surveyed_plan};
-use roll_core::Watch;
+use command_line::{Options, Source};
+use occupancy_table::ColorMode;
+use plan_occupancy::{surveyed_course, surveyed_plan};
+use roll_core::Observer;
 use std::alloc::Global;
 use std::io::Write;
 
 /// Reads the inventory and the playbook, and writes the plan of the first play, or the course of all where the names of the hosts that fail in it are given, each play with its
 /// groups, those that are full in colours where it is asked for. `watch` is told of the hosts that are left out.
 #[allow(clippy::too_many_arguments)]
-pub fn groups<S: System, T: Watch, I: Input, W: Write>(
+pub fn groups<S: System, T: Observer, I: Input, W: Write>(
     system: &S,
     alloc: Global,
     watch: &mut T,
     drawing: &mut Drawing<'_, '_, S>,
     inventory: Source,
     playbook: Source,
-    wishes: &Wishes,
+    wishes: &Options,
     input: &mut I,
     out: &mut W,
 ) -> Result<Status, Fault>
@@ -44,7 +44,7 @@ pub fn groups<S: System, T: Watch, I: Input, W: Write>(
             let printed = print_groups(alloc, inventory, playbook, failing, paint, out);
             if printed.is_ok() {
                 let plays = if failing.is_some() { usize::MAX } else { 1 };
-                tell_behind(alloc, watch, plays, inventory, playbook);
+                report_behind(alloc, watch, plays, inventory, playbook);
                 drawing.draw(alloc, inventory, playbook);
             }
             printed
@@ -59,7 +59,7 @@ fn print_groups<W: Write>(
     inventory: &[u8],
     playbook: &[u8],
     failing: &Option<String>,
-    paint: Paint,
+    paint: ColorMode,
     out: &mut W,
 ) -> Result<Status, Fault>
     ensures ok { IfOk result (PrintsGroups paint (option_map string_bytes failing.now) inventory.now playbook.now (W.contents out.old) (W.contents out.new)) }
@@ -85,25 +85,25 @@ fn print_groups<W: Write>(
 }
 
 /// How tables are written: with colours always, never, or where the system shows them.
-fn paint_of<S: System>(system: &S, color: &Option<String>) -> Paint
+fn paint_of<S: System>(system: &S, color: &Option<String>) -> ColorMode
     ensures { IsPaintOf (option_map string_bytes color.now) result }
 {
     let Some(when) = color else {
         return shown_paint(system);
     };
     if when.as_str() == "always" {
-        Paint::Coloured
+        ColorMode::Coloured
     } else if when.as_str() == "never" {
-        Paint::Plain
+        ColorMode::Plain
     } else {
         shown_paint(system)
     }
 }
 
-fn shown_paint<S: System>(system: &S) -> Paint {
+fn shown_paint<S: System>(system: &S) -> ColorMode {
     if system.shows_colours() {
-        Paint::Coloured
+        ColorMode::Coloured
     } else {
-        Paint::Plain
+        ColorMode::Plain
     }
 }

@@ -4,7 +4,7 @@ ghost use Rattle.std.specs.Option.{option_map};
 ghost use Rattle.rollout.specs.Jsons.{PlansJson, PrintsCourse, PrintsLimits, PrintsPlan, RefusesCourse, RefusesLimits, RefusesPlan, TabulatesJson};
 ghost use Rattle.rollout.specs.Systems.{sources_of};
 
-use crate::commands::plan::tell_behind;
+use crate::commands::plan::report_behind;
 use crate::fault::Fault;
 use crate::inputs::read_both;
 use crate::source::read_source;
@@ -13,7 +13,7 @@ use crate::system::System;
 use bounded_io::Input;
 use command_line::Source;
 use json_commands::{course_json, limits_json, plan_json};
-use roll_core::Watch;
+use roll_core::Observer;
 use std::alloc::Global;
 use std::io::Write;
 
@@ -47,7 +47,7 @@ fn print_limits<W: Write>(alloc: Global, inventory: &[u8], out: &mut W) -> Resul
 /// Reads the inventory and the playbook, and writes as one object the plan of the playbook's first play, or where hosts to fail are given, be it nobody, the course of its plays. `watch`
 /// is told of the hosts that they leave out.
 #[allow(clippy::too_many_arguments)]
-pub fn plan_in_json<S: System, T: Watch, I: Input, W: Write>(
+pub fn plan_in_json<S: System, T: Observer, I: Input, W: Write>(
     system: &S,
     alloc: Global,
     watch: &mut T,
@@ -75,7 +75,7 @@ pub fn plan_in_json<S: System, T: Watch, I: Input, W: Write>(
     }
 }
 
-fn plan_of_play<S: System, T: Watch, I: Input, W: Write>(
+fn plan_of_play<S: System, T: Observer, I: Input, W: Write>(
     system: &S,
     alloc: Global,
     watch: &mut T,
@@ -93,7 +93,7 @@ fn plan_of_play<S: System, T: Watch, I: Input, W: Write>(
             let playbook = playbook.as_slice();
             let printed = print_plan(alloc, inventory, playbook, out);
             if printed.is_ok() {
-                tell_behind(alloc, watch, 1, inventory, playbook);
+                report_behind(alloc, watch, 1, inventory, playbook);
             }
             printed
         }
@@ -102,7 +102,7 @@ fn plan_of_play<S: System, T: Watch, I: Input, W: Write>(
 }
 
 #[allow(clippy::too_many_arguments)]
-fn course_of_plays<S: System, T: Watch, I: Input, W: Write>(
+fn course_of_plays<S: System, T: Observer, I: Input, W: Write>(
     system: &S,
     alloc: Global,
     watch: &mut T,
@@ -121,7 +121,7 @@ fn course_of_plays<S: System, T: Watch, I: Input, W: Write>(
             let playbook = playbook.as_slice();
             let printed = print_course(alloc, inventory, playbook, failing, out);
             if printed.is_ok() {
-                tell_behind(alloc, watch, usize::MAX, inventory, playbook);
+                report_behind(alloc, watch, usize::MAX, inventory, playbook);
             }
             printed
         }

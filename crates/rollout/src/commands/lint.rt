@@ -1,13 +1,13 @@
 //! The command `lint`: from the files of an inventory and a playbook to all their faults, or to what is probably a mistake in them.
 ghost use Rattle.std.specs.Prelude.{◌≡◌, IfErr, IfOk, None, Some, false, true};
 ghost use Rattle.std.specs.Option.{option_map};
-ghost use Rattle.note_lines.specs.Kinds.{are_kind_names};
+ghost use Rattle.lint_rules.specs.Kinds.{are_kind_names};
 ghost use Rattle.rollout.specs.Lists.{IsBadList};
 ghost use Rattle.rollout.specs.Notes.{FailsOver, Lints, LintsBoth, LintsOne, SaysOf, TellsInstead};
 ghost use Rattle.rollout.specs.Notes as spec;
 ghost use Rattle.rollout.specs.Systems.{sources_of};
 
-use crate::commands::faults::{find_faults, tell_faults};
+use crate::commands::faults::{find_faults, report_faults};
 use crate::fault::Fault;
 use crate::inputs::read_both;
 use crate::list::bad_list;
@@ -16,10 +16,10 @@ use crate::status::Status;
 use crate::system::System;
 use bounded_io::Input;
 use command_line::Source;
-use fleet_notes::Texts;
-use lint_notes::{lint_fleet_text, lint_text};
-use note_lines::{Allowed, read_allowed};
-use planning::PlanFault;
+use inventory_lints::Texts;
+use lint_command::{lint_fleet_text, lint_text};
+use lint_rules::{Allowed, read_allowed};
+use plan_command::PlanFault;
 use std::alloc::Global;
 use std::io::Write;
 
@@ -165,7 +165,7 @@ fn print_instead<W: Write>(
         return Err(Fault::from(refused));
     }
     match find_faults(alloc, inventory, playbook) {
-        Ok(Some(found)) => tell_faults(alloc, &found, inventory, playbook, out),
+        Ok(Some(found)) => report_faults(alloc, &found, inventory, playbook, out),
         Ok(None) => Err(Fault::from(refused)),
         Err(_refused) => Err(Fault::Memory),
     }

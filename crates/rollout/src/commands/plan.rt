@@ -8,18 +8,18 @@ use crate::fault::Fault;
 use crate::inputs::read_both;
 use crate::status::Status;
 use crate::system::System;
-use aftermath::left_out_lines;
 use batch_plan::start;
 use bounded_io::Input;
 use command_line::Source;
-use planning::{plan_text, read_fleet, read_known_plays};
-use roll_core::Watch;
+use plan_command::{plan_text, read_fleet, read_known_plays};
+use roll_core::Observer;
+use run_diagnosis::left_out_lines;
 use std::alloc::Global;
 use std::io::Write;
 
 /// Reads the inventory and the playbook, and writes the plan of the playbook's first play. `watch` is told of the hosts that it leaves out.
 #[allow(clippy::too_many_arguments)]
-pub fn plan<S: System, T: Watch, I: Input, W: Write>(
+pub fn plan<S: System, T: Observer, I: Input, W: Write>(
     system: &S,
     alloc: Global,
     watch: &mut T,
@@ -36,7 +36,7 @@ pub fn plan<S: System, T: Watch, I: Input, W: Write>(
         Ok((inventory, playbook)) => {
             let printed = print_plan(alloc, inventory.as_slice(), playbook.as_slice(), out);
             if printed.is_ok() {
-                tell_behind(alloc, watch, 1, inventory.as_slice(), playbook.as_slice());
+                report_behind(alloc, watch, 1, inventory.as_slice(), playbook.as_slice());
                 drawing.draw(alloc, inventory.as_slice(), playbook.as_slice());
             }
             printed
@@ -62,7 +62,7 @@ fn print_plan<W: Write>(
 }
 
 /// Behind what was printed, and where somebody is told, tells of the hosts that the first of the plays leave out, so many of them.
-pub(crate) fn tell_behind<T: Watch>(
+pub(crate) fn report_behind<T: Observer>(
     alloc: Global,
     watch: &mut T,
     plays: usize,
@@ -70,12 +70,12 @@ pub(crate) fn tell_behind<T: Watch>(
     playbook: &[u8],
 ) {
     if watch.is_told() {
-        tell_left_out(alloc, watch, plays, inventory, playbook);
+        report_left_out(alloc, watch, plays, inventory, playbook);
     }
 }
 
 /// Tells of the hosts that the first of the plays name and that stay down. The texts are read once more for it.
-fn tell_left_out<T: Watch>(
+fn report_left_out<T: Observer>(
     alloc: Global,
     watch: &mut T,
     count: usize,

@@ -14,14 +14,14 @@ use crate::fault::Fault;
 use crate::status::Status;
 use crate::system::System;
 use bounded_io::Input;
-use command_line::{Source, Wishes};
-use roll_core::Watch;
+use command_line::{Options, Source};
+use roll_core::Observer;
 use std::alloc::Global;
 use std::io::Write;
 
 /// Does what a line of `plan` asks for: the plan, or the course where hosts to fail are given, be it nobody.
 #[allow(clippy::too_many_arguments)]
-fn plan_or_course<S: System, T: Watch, I: Input, O: Write>(
+fn plan_or_course<S: System, T: Observer, I: Input, O: Write>(
     system: &S,
     alloc: Global,
     watch: &mut T,
@@ -55,14 +55,14 @@ fn plan_or_course<S: System, T: Watch, I: Input, O: Write>(
 
 /// Does what a line of `plan` asks for but for its picture: with the groups, where it is asked for them.
 #[allow(clippy::too_many_arguments)]
-fn print_plan<S: System, T: Watch, I: Input, O: Write>(
+fn print_plan<S: System, T: Observer, I: Input, O: Write>(
     system: &S,
     alloc: Global,
     watch: &mut T,
     drawing: &mut Drawing<'_, '_, S>,
     inventory: Source,
     playbook: Source,
-    wishes: &Wishes,
+    wishes: &Options,
     input: &mut I,
     out: &mut O,
 ) -> Result<Status, Fault>
@@ -83,13 +83,13 @@ fn print_plan<S: System, T: Watch, I: Input, O: Write>(
 
 /// Does what a line of `plan` asks for, and draws its picture behind that, where it is asked for one.
 #[allow(clippy::too_many_arguments)]
-pub fn plan_by<S: System, T: Watch, I: Input, O: Write>(
+pub fn plan_by<S: System, T: Observer, I: Input, O: Write>(
     system: &S,
     alloc: Global,
     watch: &mut T,
     inventory: Source,
     playbook: Source,
-    wishes: &Wishes,
+    wishes: &Options,
     input: &mut I,
     out: &mut O,
 ) -> Result<Status, Fault>

@@ -2,12 +2,12 @@
 ghost use Rattle.std.specs.Prelude.{◌≡◌, ◌<◌, ◌≤◌, Err, IfErr, IfOk, None, find, length, true};
 ghost use Rattle.domains.specs.Patterns.{names_nothing};
 ghost use Rattle.journal.specs.Lines.{max_body};
-ghost use Rattle.play_course.specs.PlayPlans.{named_parts};
+ghost use Rattle.play_forecast.specs.PlayPlans.{named_parts};
 ghost use Rattle.roll_run.specs.Histories.{Gains};
 ghost use Rattle.roll_run.specs.Plays.{MayStart};
-ghost use Rattle.running.specs.Beginnings.{plays_from};
-ghost use Rattle.running.specs.Keepings.{KeepsAheadFrom, KeepsFrom};
-ghost use Rattle.resuming.specs.Resumptions.{CanRun};
+ghost use Rattle.run_command.specs.Beginnings.{plays_from};
+ghost use Rattle.run_command.specs.Keepings.{KeepsAheadFrom, KeepsFrom};
+ghost use Rattle.resume_state.specs.Resumptions.{CanRun};
 ghost use Rattle.rollout.specs.Inputs.{IsTextOfFile};
 ghost use Rattle.rollout.specs.Kept.{KeepsAgain, KeepsRest, KeepsResumed, KeepsTo};
 ghost use Rattle.rollout.specs.Locks.{IsGiven};
@@ -20,23 +20,23 @@ use crate::children::refusal;
 use crate::commands::run::ended;
 use crate::fault::Fault;
 use crate::inputs::{Given, read_behind};
-use crate::locking::{Held, Locking, hold_journal, hold_lock, tell_replaced};
+use crate::locking::{Held, Locking, hold_journal, hold_lock, report_replaced};
 use crate::source::read_file;
 use crate::status::Status;
 use crate::system::System;
-use aftermath::Call;
 use bounded_io::Input;
 use command_line::{Forks, Source};
 use domains::Fleet;
 use journal::whole_length;
-use json_texts::Form;
-use keeping::{Continuer, Disk, Holds};
-use local_programs::workers;
+use journal_writer::{DurableFile, IsComplete, JournalAppender};
+use json_output::Form;
+use local_runner::workers;
 use play_model::Play;
-use resuming::{Resumption, Wish, resume_inputs};
-use roll_core::{History, Runner, Watch};
-use roll_run::{Attend, Coordinator};
-use running::{Beginning, Manner, run_from};
+use resume_state::{Resumption, Wish, resume_inputs};
+use roll_core::{History, Observer, Runner};
+use roll_run::{Coordinator, StopControl};
+use run_command::{Beginning, Manner, run_from};
+use run_diagnosis::Call;
 use std::alloc::Global;
 use std::io::Write;
 use std::process::{Processes, SystemProcess};
@@ -61,8 +61,8 @@ pub fn resume<
     S: System,
     H: Threads + Wait + Processes<Started = SystemProcess> + Sync,
     R: Runner,
-    A: Attend,
-    T: Watch,
+    A: StopControl,
+    T: Observer,
     I: Input,
     W: Write,
 >(
@@ -110,7 +110,7 @@ pub fn resume<
         out,
         history,
     );
-    tell_replaced(system, coordinator.alloc, watch, &lock);
+    report_replaced(system, coordinator.alloc, watch, &lock);
     rolled
 }
 
@@ -120,8 +120,8 @@ fn resume_sources<
     S: System,
     H: Threads + Wait + Processes<Started = SystemProcess> + Sync,
     R: Runner,
-    A: Attend,
-    T: Watch,
+    A: StopControl,
+    T: Observer,
     I: Input,
     W: Write,
 >(
@@ -199,8 +199,8 @@ fn resume_texts<
     S: System,
     H: Threads + Wait + Processes<Started = SystemProcess> + Sync,
     R: Runner,
-    A: Attend,
-    T: Watch,
+    A: StopControl,
+    T: Observer,
     W: Write,
 >(
     system: &S,
@@ -256,9 +256,9 @@ fn resume_texts<
 pub(crate) fn keep_rest<
     H: Threads + Wait + Processes<Started = SystemProcess> + Sync,
     R: Runner,
-    A: Attend,
-    T: Watch,
-    F: Disk,
+    A: StopControl,
+    T: Observer,
+    F: DurableFile,
     W: Write,
 >(
     coordinator: &Coordinator<'_, H, A>,
@@ -285,7 +285,7 @@ pub(crate) fn keep_rest<
         mended,
         goes_on,
     } = resumption;
-    let keeper = Continuer::new(coordinator.alloc, file, mended.as_slice(), goes_on);
+    let keeper = JournalAppender::new(coordinator.alloc, file, mended.as_slice(), goes_on);
     run_rest(
         coordinator,
         runner,
@@ -305,9 +305,9 @@ pub(crate) fn keep_rest<
 pub(crate) fn run_rest<
     H: Threads + Wait + Processes<Started = SystemProcess> + Sync,
     R: Runner,
-    A: Attend,
-    T: Watch,
-    K: Holds,
+    A: StopControl,
+    T: Observer,
+    K: IsComplete,
     W: Write,
 >(
     coordinator: &Coordinator<'_, H, A>,

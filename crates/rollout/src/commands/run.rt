@@ -1,7 +1,7 @@
 //! The command `run`: from the files of an inventory and a playbook to the recap of a run.
 ghost use Rattle.std.specs.Prelude.{◌≡◌, ◌<◌, ◌≤◌, Err, IfOk, IfErr, IfSome, Ok, OnOk, false, string_bytes, true};
 ghost use Rattle.roll_run.specs.Histories.{Gains};
-ghost use Rattle.running.specs.Keepings.{KeepsBroken, KeepsRuns};
+ghost use Rattle.run_command.specs.Keepings.{KeepsBroken, KeepsRuns};
 ghost use Rattle.rollout.specs.Children.{IsAnswerOf};
 ghost use Rattle.rollout.specs.Kept.{KeepsNew, KeepsTo, OfInputsOrNothing};
 ghost use Rattle.rollout.specs.Locks.{IsGiven};
@@ -12,21 +12,21 @@ ghost use Rattle.rollout.specs.Status.{status_of_run};
 ghost use Rattle.rollout.specs.declared.fault.Fault.TheVariants.{JournalWrite, Stopped};
 
 use crate::children::refusal;
-use crate::commands::strictness::check_names;
+use crate::commands::strict::check_names;
 use crate::fault::Fault;
 use crate::inputs::{Given, read_behind};
-use crate::locking::{Held, Locking, hold_lock, tell_replaced};
+use crate::locking::{Held, Locking, hold_lock, report_replaced};
 use crate::status::Status;
 use crate::system::System;
-use aftermath::Call;
 use bounded_io::Input;
 use command_line::{Forks, Source};
-use json_texts::Form;
-use keeping::{Holds, Keeper};
-use local_programs::workers;
-use roll_core::{History, Runner, Unwatched, Watch};
-use roll_run::{Attend, Coordinator};
-use running::{Manner, RunEnd, RunTextFault, run_text};
+use journal_writer::{IsComplete, JournalWriter};
+use json_output::Form;
+use local_runner::workers;
+use roll_core::{History, NoObserver, Observer, Runner};
+use roll_run::{Coordinator, StopControl};
+use run_command::{Manner, RunEnd, RunTextFault, run_text};
+use run_diagnosis::Call;
 use std::alloc::Global;
 use std::io::Write;
 use std::process::{Processes, SystemProcess};
@@ -45,7 +45,7 @@ pub struct StartWish<'w> {
 
 /// Whether a run may begin: the ends of programs can be had, and no file of the journal's name is there; and the lock that it holds, with what the inventory gave if it is
 /// locked. `watch` is told if there is none to be had.
-pub(crate) fn may_begin<S: System, T: Watch>(
+pub(crate) fn may_begin<S: System, T: Observer>(
     system: &S,
     alloc: Global,
     watch: &mut T,
@@ -72,8 +72,8 @@ pub fn roll<
     S: System,
     H: Threads + Wait + Processes<Started = SystemProcess> + Sync,
     R: Runner,
-    A: Attend,
-    T: Watch,
+    A: StopControl,
+    T: Observer,
     I: Input,
     W: Write,
 >(
@@ -111,7 +111,7 @@ pub fn roll<
                 out,
                 history,
             );
-            tell_replaced(system, coordinator.alloc, watch, &lock);
+            report_replaced(system, coordinator.alloc, watch, &lock);
             rolled
         }
         Err(fault) => (Err(fault), history),
@@ -134,8 +134,8 @@ fn roll_inputs<
     S: System,
     H: Threads + Wait + Processes<Started = SystemProcess> + Sync,
     R: Runner,
-    A: Attend,
-    T: Watch,
+    A: StopControl,
+    T: Observer,
     I: Input,
     W: Write,
 >(
@@ -191,8 +191,8 @@ fn roll_texts<
     S: System,
     H: Threads + Wait + Processes<Started = SystemProcess> + Sync,
     R: Runner,
-    A: Attend,
-    T: Watch,
+    A: StopControl,
+    T: Observer,
     W: Write,
 >(
     system: &S,
@@ -221,7 +221,7 @@ fn roll_texts<
     match wish.journal {
         Some(name) => {
             let name = name.as_str();
-            let keeper = Keeper::new(coordinator.alloc, system, name, inventory, playbook);
+            let keeper = JournalWriter::new(coordinator.alloc, system, name, inventory, playbook);
             roll_with(
                 coordinator,
                 runner,
@@ -238,7 +238,7 @@ fn roll_texts<
             coordinator,
             runner,
             watch,
-            Unwatched,
+            NoObserver,
             inventory,
             playbook,
             manner,
@@ -253,9 +253,9 @@ fn roll_texts<
 fn roll_with<
     H: Threads + Wait + Processes<Started = SystemProcess> + Sync,
     R: Runner,
-    A: Attend,
-    T: Watch,
-    K: Holds,
+    A: StopControl,
+    T: Observer,
+    K: IsComplete,
     W: Write,
 >(
     coordinator: &Coordinator<'_, H, A>,

@@ -11,19 +11,19 @@ use crate::fault::Fault;
 use crate::inputs::read_both;
 use crate::status::Status;
 use crate::system::System;
-use aftermath::{Call, has_why, next_lines};
 use bounded_io::Input;
 use command_line::Source;
 use domains::Fleet;
 use journal::{Journal, write_state};
-use outlook::read_begun;
-use roll_core::Watch;
-use running::end_of;
+use resume_preview::read_begun;
+use roll_core::Observer;
+use run_command::end_of;
+use run_diagnosis::{Call, has_why, next_lines};
 use std::alloc::Global;
 use std::io::Write;
 
 /// Reads the inventory and the journal, and writes how each host stands, and whether the run has ended. `watch` is told what to do next, if something is left to do.
-pub fn state<S: System, T: Watch, I: Input, W: Write>(
+pub fn state<S: System, T: Observer, I: Input, W: Write>(
     system: &S,
     alloc: Global,
     watch: &mut T,
@@ -44,13 +44,13 @@ pub fn state<S: System, T: Watch, I: Input, W: Write>(
         goes_on,
         call: call.as_ref(),
     };
-    tell_sources(
+    report_sources(
         system, alloc, watch, inventory, journal, &standing, input, out,
     )
 }
 
 #[allow(clippy::too_many_arguments)]
-fn tell_sources<S: System, T: Watch, I: Input, W: Write>(
+fn report_sources<S: System, T: Observer, I: Input, W: Write>(
     system: &S,
     alloc: Global,
     watch: &mut T,
@@ -68,7 +68,7 @@ fn tell_sources<S: System, T: Watch, I: Input, W: Write>(
         Ok((inventory, journal)) => {
             let inventory = inventory.as_slice();
             let journal = journal.as_slice();
-            tell_texts(alloc, watch, inventory, journal, standing, out)
+            report_texts(alloc, watch, inventory, journal, standing, out)
         }
         Err(fault) => Err(fault),
     }
@@ -95,7 +95,7 @@ struct Standing<'s> {
 const MAY_RUN: &[u8] = b"note: programs may still run on the hosts that are running\n";
 
 /// Tells of a run that has ended, or was broken off, what may be left of it and what to do next.
-fn tell_next<T: Watch>(
+fn report_next<T: Observer>(
     alloc: Global,
     watch: &mut T,
     fleet: &Fleet,
@@ -140,7 +140,7 @@ fn status_of(journal: &Journal<'_>, goes_on: bool) -> Status
 }
 
 /// Writes where the run of a journal stands, which began with this inventory, or with another where that is said to be meant. Nothing goes out before the journal was accepted.
-fn tell<T: Watch, W: Write>(
+fn tell<T: Observer, W: Write>(
     alloc: Global,
     watch: &mut T,
     fleet: &Fleet,
@@ -159,7 +159,7 @@ fn tell<T: Watch, W: Write>(
     };
     match write_state(fleet, standing.goes_on, &journal, out) {
         Ok(()) => {
-            tell_next(alloc, watch, fleet, &journal, standing);
+            report_next(alloc, watch, fleet, &journal, standing);
             Ok(status_of(&journal, standing.goes_on))
         }
         Err(fault) => Err(Fault::Write(fault)),
@@ -168,7 +168,7 @@ fn tell<T: Watch, W: Write>(
 
 /// The same of an inventory as a text. Nothing goes out before both were accepted.
 #[tactic(auto, using(crate::proofs::PlainNames::names_are_plain))]
-fn tell_texts<T: Watch, W: Write>(
+fn report_texts<T: Observer, W: Write>(
     alloc: Global,
     watch: &mut T,
     inventory: &[u8],

@@ -3,21 +3,21 @@ ghost use Rattle.std.specs.Prelude.{IfErr, IfOk};
 ghost use Rattle.rollout.specs.WordTexts.{PrintsWords, RefusesWords, TellsWords};
 ghost use Rattle.rollout.specs.Systems.{sources_of};
 
-use crate::commands::plan::tell_behind;
+use crate::commands::plan::report_behind;
 use crate::fault::Fault;
 use crate::inputs::read_both;
 use crate::status::Status;
 use crate::system::System;
 use bounded_io::Input;
 use command_line::Source;
-use roll_core::Watch;
+use command_preview::words_text;
+use roll_core::Observer;
 use std::alloc::Global;
 use std::io::Write;
-use step_words::words_text;
 
 /// Reads the inventory and the playbook, and writes which words each step of each play would run on which host. `watch` is told of the hosts that the plays leave out.
 #[allow(clippy::too_many_arguments)]
-pub fn words<S: System, T: Watch, I: Input, W: Write>(
+pub fn words<S: System, T: Observer, I: Input, W: Write>(
     system: &S,
     alloc: Global,
     watch: &mut T,
@@ -35,7 +35,7 @@ pub fn words<S: System, T: Watch, I: Input, W: Write>(
             let playbook = playbook.as_slice();
             let printed = print_words(alloc, inventory, playbook, out);
             if printed.is_ok() {
-                tell_behind(alloc, watch, usize::MAX, inventory, playbook);
+                report_behind(alloc, watch, usize::MAX, inventory, playbook);
             }
             printed
         }

@@ -1,7 +1,7 @@
 use Rattle.std.proofs.Common.{ℕ, List, map, sym, ◌∙◌, arith}
 use Rattle.std.specs.List.{range_with_len}
 use Rattle.domains.specs.Ids.{host_numbers}
-use Rattle.fleet_numbers.proofs.RunLemmas.{added}
+use Rattle.fleet_index.proofs.RunLemmas.{added}
 use Rattle.fleet_states.proofs.HostLemmas.{length-host_numbers}
 use Rattle.batch_plan.specs.Deals.{dealt_to}
 use Rattle.batch_plan.proofs.DealLemmas.{dealt_more}

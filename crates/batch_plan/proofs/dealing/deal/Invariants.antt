@@ -1,6 +1,6 @@
 use Rattle.std.proofs.Common.{◌≡◌, map}
 use Rattle.std.specs.List.{range_with_len}
-use Rattle.fleet_numbers.specs.Runs.{AreEnds, runs}
+use Rattle.fleet_index.specs.Runs.{AreEnds, runs}
 use Rattle.domains.specs.Ids.{host_numbers}
 use Rattle.batch_plan.specs.Deals.{dealt_to}
 use Rattle.batch_plan.proofs.dealing.deal.Given as goal

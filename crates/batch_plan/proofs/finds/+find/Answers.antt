@@ -1,6 +1,6 @@
 use Rattle.std.proofs.Common.{◌≡◌, ◌-◌, ◌<◌, false, List, length, get_or, sym, ap, ◌∙◌, subst, arith, rules}
 use Rattle.std.proofs.lemmas.List.{length-map}
-use Rattle.fleet_numbers.specs.NumberLists.{has_number}
+use Rattle.fleet_index.specs.NumberLists.{has_number}
 use Rattle.batch_plan.specs.Nodes.{Node, Subtree, side_by_side, groups_in, RiseFrom}
 use Rattle.batch_plan.specs.Finds.{IsCountedIn, IsGap, tops_of}
 use Rattle.batch_plan.proofs.TreeLemmas.{tops_rise, below_rise, nodes_below_less}

@@ -1,6 +1,6 @@
 use Rattle.std.proofs.Common.{◌<◌, ℕ, List, [], length, sym, ap, ◌∙◌, subst, arith}
 use Rattle.std.proofs.lemmas.List.Sums.{AllPass-from_list_all}
-use Rattle.fleet_numbers.specs.NumberLists.{are_below, list_at}
+use Rattle.fleet_index.specs.NumberLists.{are_below, list_at}
 use Rattle.domains.specs.Ids.{host_numbers}
 use Rattle.batch_plan.specs.Checks.{FitInto}
 use Rattle.batch_plan.proofs.FittingLemmas.{holds_more}

@@ -1,5 +1,5 @@
 use Rattle.std.proofs.Common.{◌≡◌, ℕ, ◌<◌}
-use Rattle.fleet_numbers.specs.NumberLists.{list_at}
+use Rattle.fleet_index.specs.NumberLists.{list_at}
 use Rattle.batch_plan.specs.Checks.{FitInto}
 use Rattle.batch_plan.proofs.places_left.all_fit.Given as goal
 

@@ -1,7 +1,7 @@
 use Rattle.std.proofs.Common.{◌<◌, length, get_or, refl, ◌∙◌, arith}
 use Rattle.std.proofs.lemmas.List.{length-set}
 use Rattle.group_tree.specs.declared.ids.GroupId.{GroupId}
-use Rattle.fleet_numbers.proofs.RunningCounts.{below_group, lowered_group, some_left_group}
+use Rattle.fleet_index.proofs.RunningCounts.{below_group, lowered_group, some_left_group}
 use Rattle.batch_plan.proofs.places_left.take.Goals as goal
 
 pub offset_bounds-left-group : goal.offset_bounds-left-group

@@ -1,5 +1,5 @@
 use Rattle.std.proofs.Common.{◌≡◌, ℕ, ◌+◌, ◌<◌, length, get_or, take, cond}
-use Rattle.fleet_numbers.specs.NumberLists.{has_number}
+use Rattle.fleet_index.specs.NumberLists.{has_number}
 use Rattle.domains.specs.Ids.{group_numbers}
 use Rattle.batch_plan.proofs.places_left.take.Given as goal
 

@@ -1,8 +1,8 @@
 use Rattle.std.proofs.Common.{◌≡◌, ℕ, ◌<◌, true, List, cond, length, get_or, sym, ap, ◌∙◌, arith}
 use Rattle.std.proofs.lemmas.List.Sums.{sum_by_more, sum_by_more_le}
 use Rattle.group_tree.specs.declared.ids.HostId.{HostId}
-use Rattle.fleet_numbers.specs.NumberLists.{has_number, list_at}
-use Rattle.fleet_numbers.proofs.RisingLemmas.{are_below-rising}
+use Rattle.fleet_index.specs.NumberLists.{has_number, list_at}
+use Rattle.fleet_index.proofs.RisingLemmas.{are_below-rising}
 use Rattle.domains.specs.Ids.{group_numbers, host_numbers}
 use Rattle.fleet_states.proofs.HostLemmas.{host_below, length-host_numbers, number_of_host}
 use Rattle.fleet_states.proofs.NumberLemmas.{number_below}

@@ -1,5 +1,5 @@
 use Rattle.std.proofs.Common.{◌≡◌, ℕ, ◌-◌, Option, Some, option_map, sym, ap, ◌∙◌}
-use Rattle.fleet_numbers.specs.NumberLists.{list_at}
+use Rattle.fleet_index.specs.NumberLists.{list_at}
 use Rattle.fleet_states.specs.Statuses.{down_count}
 use Rattle.batch_plan.proofs.RoomLemmas.{room_is}
 use Rattle.batch_plan.proofs.rooms.room.Goals as goal

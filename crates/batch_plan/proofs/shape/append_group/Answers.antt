@@ -1,5 +1,5 @@
 use Rattle.std.proofs.Common.{◌≡◌, ◌≤◌, true, false, is_some, List, length, sym, ap, ◌∙◌, subst, arith}
-use Rattle.fleet_numbers.specs.Chains.{is_limited}
+use Rattle.fleet_index.specs.Chains.{is_limited}
 use Rattle.batch_plan.specs.Nodes.{Node, side_by_side}
 use Rattle.batch_plan.specs.Shapes.{last_path}
 use Rattle.batch_plan.proofs.ShapeLemmas.{on_ok}

@@ -1,5 +1,5 @@
 use Rattle.std.proofs.Common.{is_some, ap}
-use Rattle.fleet_numbers.specs.NumberLists.{bit}
+use Rattle.fleet_index.specs.NumberLists.{bit}
 use Rattle.batch_plan.proofs.shape.limit_count.Goals as goal
 
 pub returns-in-Some : goal.returns-in-Some

@@ -1,7 +1,7 @@
 use Rattle.std.proofs.Common.{◌++◌, ◌∷◌, [], List, None, ap, cond, map, string_bytes, sym, ◌∙◌, option_map}
 use Rattle.std.proofs.lemmas.List.{map-append}
 use Rattle.command_line.specs.Operands.{Word}
-use Rattle.command_line.specs.OptionReads.{Given, given_as, leading}
+use Rattle.command_line.specs.OptionReads.{OptionMatch, given_as, leading}
 use Rattle.command_line.proofs.ReadingLemmas.{goes_by_option, goes_by_word, joined, left, one}
 use Rattle.command_line.proofs.option_reading.read_options.Goals as goal
 
@@ -15,7 +15,7 @@ loop-word-preserved-in-Some-leading c =
     let value : Word = c.in-Some-leading.text.now in
     let rest : List Word = map string_bytes c.in-Some-leading.behind.now in
     let kept : List Word = map string_bytes c.loop-word.plain.items in
-    let given : List Given = map given_as c.loop-word.given.items in
+    let given : List OptionMatch = map given_as c.loop-word.given.items in
     let split = ap (map string_bytes) c.in-Some.ensures.cases.0 in
     let now = c.goes_on-in_front.ensures in
     let found = sym (c.leading.ensures ∙ ap (λ b. cond b (leading options word words) None) now)
@@ -33,7 +33,7 @@ loop-word-preserved c =
     let word : Word = string_bytes c.in-Some.word.now in
     let words : List Word = map string_bytes c.in-Some.rest.now in
     let kept : List Word = map string_bytes c.loop-word.plain.items in
-    let given : List Given = map given_as c.loop-word.given.items in
+    let given : List OptionMatch = map given_as c.loop-word.given.items in
     let split = ap (map string_bytes) c.in-Some.ensures.cases.0 in
     let now = c.goes_on-in_front.ensures in
     let none = sym (c.leading.ensures ∙ ap (λ b. cond b (leading options word words) None) now)

@@ -1,8 +1,8 @@
 use Rattle.std.proofs.Common.{◌≡◌, ℕ, ◌+◌, ◌<◌, ◌++◌, List, [], length, map, sym, ap, ◌∙◌, subst}
 use Rattle.std.proofs.lemmas.List.{length-map}
 use Rattle.group_tree.specs.declared.ids.GroupId.{GroupId}
-use Rattle.fleet_numbers.specs.Chains.{ends_before}
-use Rattle.fleet_numbers.specs.NumberLists.{IsRising, list_at}
+use Rattle.fleet_index.specs.Chains.{ends_before}
+use Rattle.fleet_index.specs.NumberLists.{IsRising, list_at}
 use Rattle.domains.specs.Findings.{crossings_among, crossings_until, each_pair}
 use Rattle.domains.specs.Ids.{group_lists, group_numbers}
 use Rattle.domains.specs.Search.{AreSeen}

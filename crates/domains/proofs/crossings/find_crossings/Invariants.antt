@@ -1,5 +1,5 @@
 use Rattle.std.proofs.Common.{◌≡◌, ◌*◌, length}
-use Rattle.fleet_numbers.specs.Chains.{ends_before}
+use Rattle.fleet_index.specs.Chains.{ends_before}
 use Rattle.domains.specs.Findings.{crossings_until}
 use Rattle.domains.specs.Ids.{group_lists}
 use Rattle.domains.specs.Search.{AreSeen}

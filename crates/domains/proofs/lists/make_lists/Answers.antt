@@ -4,10 +4,10 @@ use Rattle.std.proofs.lemmas.List.{length-map}
 use Rattle.std.proofs.lemmas.List.FromFn.{length-map-range_with_len}
 use Rattle.group_tree.specs.Limits.{limit_of}
 use Rattle.group_tree.specs.declared.ids.HostId.{HostId}
-use Rattle.fleet_numbers.specs.NumberLists.{IsRising, has_number, list_at}
-use Rattle.fleet_numbers.specs.GroupPaths.{paths_from, is_member}
-use Rattle.fleet_numbers.specs.Chains.{is_limited}
-use Rattle.fleet_numbers.proofs.PathLemmas.{length-paths_from}
+use Rattle.fleet_index.specs.NumberLists.{IsRising, has_number, list_at}
+use Rattle.fleet_index.specs.GroupPaths.{paths_from, is_member}
+use Rattle.fleet_index.specs.Chains.{is_limited}
+use Rattle.fleet_index.proofs.PathLemmas.{length-paths_from}
 use Rattle.domains.specs.Ids.{group_lists, host_lists}
 use Rattle.domains.specs.FleetLists.{allowed_counts}
 use Rattle.domains.proofs.ByNumber.{groups_held, held_lists, hosts_under, member_lists}

@@ -1,5 +1,5 @@
 use Rattle.group_tree.specs.declared.ids.HostId.{HostId}
-use Rattle.fleet_numbers.proofs.ListLemmas.{lent_list}
+use Rattle.fleet_index.proofs.ListLemmas.{lent_list}
 use Rattle.domains.proofs.lists.members_at.Goals as goal
 
 pub returns : goal.returns

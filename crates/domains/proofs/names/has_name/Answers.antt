@@ -1,7 +1,7 @@
 use Rattle.std.proofs.Common.{◌∙◌, Bor, [], sym, ap}
 use Rattle.std.proofs.lemmas.List.{get_or-map}
 use Rattle.group_tree.specs.Names.{Name}
-use Rattle.fleet_numbers.proofs.SortedNamesLemmas.{same_name-true}
+use Rattle.fleet_index.proofs.SortedNamesLemmas.{same_name-true}
 use Rattle.domains.proofs.names.has_name.Goals as goal
 
 pub returns-in-Some : goal.returns-in-Some

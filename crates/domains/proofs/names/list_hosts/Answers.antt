@@ -1,7 +1,7 @@
 use Rattle.std.proofs.Common.{◌≡◌, ◌∙◌, IfOk, List, Global, map, ap, subst}
 use Rattle.std.specs.String.{string_bytes}
 use Rattle.group_tree.specs.Names.{Name}
-use Rattle.fleet_numbers.specs.SortedNames.{sorted_names}
+use Rattle.fleet_index.specs.SortedNames.{sorted_names}
 use Rattle.domains.specs.declared.rows.HostRow.{HostRow}
 use Rattle.domains.proofs.ListedLemmas.{sorted_alike, lent_names}
 use Rattle.domains.proofs.names.list_hosts.Goals as goal

@@ -6,8 +6,8 @@ use Rattle.std.proofs.lemmas.Bool.{some_since, false≢true}
 use Rattle.std.proofs.lemmas.List.{get_or-map, length-map}
 use Rattle.std.proofs.lemmas.List.Folds.{list_any_at}
 use Rattle.group_tree.specs.Names.{Name, same_name, is_among}
-use Rattle.fleet_numbers.specs.SortedNames.{name_cmp}
-use Rattle.fleet_numbers.proofs.SortedNamesLemmas.{is_rising-sorted_names, is_among-sorted_names, same_name-itself}
+use Rattle.fleet_index.specs.SortedNames.{name_cmp}
+use Rattle.fleet_index.proofs.SortedNamesLemmas.{is_rising-sorted_names, is_among-sorted_names, same_name-itself}
 use Rattle.domains.proofs.names.number_rows.Goals as goal
 
 -- the name of an element stands among the names of the elements

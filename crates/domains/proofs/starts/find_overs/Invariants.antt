@@ -1,5 +1,5 @@
 use Rattle.std.proofs.Common.{◌≡◌, None, get_or}
-use Rattle.fleet_numbers.specs.NumberLists.{list_at}
+use Rattle.fleet_index.specs.NumberLists.{list_at}
 use Rattle.domains.specs.FleetViews.{off_count}
 use Rattle.domains.specs.Findings.{overs_until}
 use Rattle.domains.specs.Ids.{host_lists}

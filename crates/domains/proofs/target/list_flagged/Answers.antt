@@ -1,5 +1,5 @@
 use Rattle.std.proofs.Common.{◌∙◌, ℕ, ◌++◌, ◌∷◌, cond, false, List, [], get_or, sym, ap}
-use Rattle.fleet_numbers.proofs.RisingLemmas.{numbers_where_more}
+use Rattle.fleet_index.proofs.RisingLemmas.{numbers_where_more}
 use Rattle.domains.proofs.target.list_flagged.Goals as goal
 
 pub loop-index-preserved : goal.loop-index-preserved

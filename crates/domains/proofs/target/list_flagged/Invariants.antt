@@ -1,5 +1,5 @@
 use Rattle.std.proofs.Common.{◌≡◌, false, map, get_or}
-use Rattle.fleet_numbers.specs.NumberLists.{numbers_where}
+use Rattle.fleet_index.specs.NumberLists.{numbers_where}
 use Rattle.domains.proofs.target.list_flagged.Given as goal
 
 abbrev pub invariant-loop-index : goal.invariant-loop-index

@@ -1,7 +1,7 @@
 use Rattle.std.proofs.Common.{◌≡◌, ℕ, ◌<◌, true, false, ◌&&◌, List, length, get_or, set, take, sym, ap, ◌∙◌, refl, arith}
 use Rattle.std.proofs.lemmas.List.{take-map}
 use Rattle.group_tree.specs.declared.ids.HostId.{HostId}
-use Rattle.fleet_numbers.specs.NumberLists.{are_below}
+use Rattle.fleet_index.specs.NumberLists.{are_below}
 use Rattle.fleet_states.specs.declared.status.Status.{Status}
 use Rattle.fleet_states.specs.declared.status.Status.TheVariants.{Running, Waiting}
 use Rattle.domains.specs.Ids.{host_numbers}

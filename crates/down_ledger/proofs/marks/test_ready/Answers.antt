@@ -1,5 +1,5 @@
 use Rattle.std.proofs.Common.{◌≡◌, ℕ, true, List, length, ap, ◌∙◌}
-use Rattle.fleet_numbers.specs.NumberLists.{are_below}
+use Rattle.fleet_index.specs.NumberLists.{are_below}
 use Rattle.fleet_states.specs.declared.status.Status.{Status}
 use Rattle.fleet_states.specs.declared.status.Status.TheVariants.{Running, Waiting}
 use Rattle.domains.specs.Ids.{host_numbers}

@@ -4,8 +4,8 @@ use Rattle.bounded_io.specs.Sending.{SendsFirst}
 use Rattle.domains.specs.Ids.{host_numbers}
 use Rattle.group_tree.specs.declared.ids.HostId.{HostId}
 use Rattle.play_model.specs.declared.play.Play.{Play}
-use Rattle.planning.proofs.PlayLemmas.{has_play}
-use Rattle.planning.proofs.TextLemmas.{breaks_plan, refused_is_true}
+use Rattle.plan_command.proofs.PlayLemmas.{has_play}
+use Rattle.plan_command.proofs.TextLemmas.{breaks_plan, refused_is_true}
 use Rattle.recap.specs.PlanText.{plan_text}
 use Rattle.expectations.proofs.ExpectingLemmas.{is_plan_in, misses_plan, plans_as}
 use Rattle.expectations.proofs.printing.expected_plan.Goals as goal

@@ -1,6 +1,6 @@
 use Rattle.std.proofs.Common.{ℕ, List, length, get_or, set, take, sym, ap, ◌∙◌, arith}
 use Rattle.group_tree.specs.declared.ids.HostId.{HostId}
-use Rattle.fleet_numbers.specs.Ids.{host_numbers}
+use Rattle.fleet_index.specs.Ids.{host_numbers}
 use Rattle.fleet_states.specs.declared.status.Status.{Status}
 use Rattle.fleet_states.proofs.StatusLemmas.{given_more_host, given_none, given_past_host, length-given}
 use Rattle.fleet_states.specs.Batches.{fails_in, status_after}

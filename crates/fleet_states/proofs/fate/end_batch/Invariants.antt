@@ -1,5 +1,5 @@
 use Rattle.std.proofs.Common.{◌≡◌, take}
-use Rattle.fleet_numbers.specs.Ids.{host_numbers}
+use Rattle.fleet_index.specs.Ids.{host_numbers}
 use Rattle.fleet_states.specs.Batches.{fails_in, statuses_after}
 use Rattle.fleet_states.proofs.fate.end_batch.Given as goal
 

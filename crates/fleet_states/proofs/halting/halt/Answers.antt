@@ -1,6 +1,6 @@
 -- Without a percentage no step is past it.
 use Rattle.std.proofs.Common.{None, Option, ℕ, sym, refl, ap, ◌∙◌}
-use Rattle.fleet_numbers.specs.Ids.{host_numbers}
+use Rattle.fleet_index.specs.Ids.{host_numbers}
 use Rattle.fleet_states.specs.Batches.{fails_in, halts_at}
 use Rattle.fleet_states.specs.Batches as spec
 use Rattle.fleet_states.proofs.LeastLemmas.{never_least}

@@ -1,5 +1,5 @@
 use Rattle.std.proofs.Common.{ℕ, Bool, Some, sym, ◌∙◌}
-use Rattle.fleet_numbers.specs.Ids.{host_numbers}
+use Rattle.fleet_index.specs.Ids.{host_numbers}
 use Rattle.fleet_states.specs.Batches.{fails_in, halts_at}
 use Rattle.fleet_states.proofs.LeastLemmas.{least_found, least_more}
 use Rattle.fleet_states.proofs.halting.halt_at_share.Goals as goal

@@ -1,5 +1,5 @@
 use Rattle.std.proofs.Common.{◌≡◌, Some, None}
-use Rattle.fleet_numbers.specs.Ids.{host_numbers}
+use Rattle.fleet_index.specs.Ids.{host_numbers}
 use Rattle.fleet_states.specs.Batches.{fails_in, halts_at, least_where}
 use Rattle.fleet_states.proofs.halting.halt_at_share.Given as goal
 

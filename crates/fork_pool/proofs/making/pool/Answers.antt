@@ -1,6 +1,6 @@
 use Rattle.std.proofs.Common.{◌≡◌, ℕ, ◌+◌, ◌∙◌, vec_len, rules}
 use Rattle.std.proofs.lemmas.List.Elements.{All-push}
-use Rattle.ticket_line.specs.Ends.{line_of, new_take}
+use Rattle.ticket_channel.specs.Ends.{line_of, new_take}
 use Rattle.fork_pool.specs.declared.worker_end.WorkerEnd.{WorkerEnd}
 use Rattle.fork_pool.proofs.Places.{placed_more}
 use Rattle.fork_pool.proofs.making.pool.Goals as goal

@@ -2,7 +2,7 @@ use Rattle.std.proofs.Common.{◌≡◌, ◌+◌, All, vec_len}
 use Rattle.std.specs.Prelude.{map}
 use Rattle.std.specs.List.{range_with_len}
 use Rattle.std.specs.Vec.Iter.{into_iter_items, into_iter_len}
-use Rattle.ticket_line.specs.Ends.{line_of, new_take}
+use Rattle.ticket_channel.specs.Ends.{line_of, new_take}
 use Rattle.fork_pool.proofs.making.pool.Given as goal
 
 abbrev pub invariant-loop-take_end : goal.invariant-loop-take_end

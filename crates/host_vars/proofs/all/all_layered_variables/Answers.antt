@@ -1,7 +1,7 @@
 use Rattle.std.proofs.Common.{◌≡◌, ℕ, ◌∙◌, ◌<◌, List, length, get_or, map, ap, sym, subst, arith}
 use Rattle.std.proofs.lemmas.List.{length-map}
 use Rattle.std.proofs.lemmas.List.FromFn.{length-map-range_with_len}
-use Rattle.fleet_numbers.specs.NumberLists.{list_at, has_number, numbers_where}
+use Rattle.fleet_index.specs.NumberLists.{list_at, has_number, numbers_where}
 use Rattle.group_tree.specs.Subtrees.{Host}
 use Rattle.group_tree.specs.Names.{same_name}
 use Rattle.domains.specs.Numbered.{host_at}

@@ -1,5 +1,5 @@
 use Rattle.std.proofs.Common.{◌≡◌, All, length, map, take}
-use Rattle.fleet_numbers.specs.NumberLists.{list_at, IsRising}
+use Rattle.fleet_index.specs.NumberLists.{list_at, IsRising}
 use Rattle.host_vars.proofs.holders.list_members_by.Given as goal
 
 abbrev pub invariant-loop-number : goal.invariant-loop-number

@@ -1,5 +1,5 @@
 use Rattle.std.proofs.Common.{◌≡◌, filter, map, take}
-use Rattle.fleet_numbers.specs.NumberLists.{has_number, list_at}
+use Rattle.fleet_index.specs.NumberLists.{has_number, list_at}
 use Rattle.host_vars.specs.Tables.{group_layer, layer_views}
 use Rattle.domains.specs.Walked.{walked_groups}
 use Rattle.host_vars.specs.Walked.{walked_at}

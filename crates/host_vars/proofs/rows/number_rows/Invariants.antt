@@ -1,5 +1,5 @@
 use Rattle.std.proofs.Common.{◌≡◌, ℕ, ◌<◌, All, length}
-use Rattle.fleet_numbers.specs.NumberLists.{list_at, has_number, IsRising}
+use Rattle.fleet_index.specs.NumberLists.{list_at, has_number, IsRising}
 use Rattle.group_tree.specs.Names.{same_name}
 use Rattle.domains.specs.Numbered.{host_at}
 use Rattle.host_vars.specs.Own.{hosts_shown, listed_at}

@@ -3,9 +3,9 @@ use Rattle.std.proofs.lemmas.List.{get_or-map, length-map}
 use Rattle.group_tree.specs.Names.{Name}
 use Rattle.inventory_read.specs.Listings.{name_of}
 use Rattle.inventory_read.specs.Rules.{TwicePlaced, repeated_at, stood_before}
-use Rattle.text_parts.specs.Telling.{with_breaches}
+use Rattle.text_syntax.specs.Telling.{with_breaches}
 use Rattle.inventory_read.proofs.Repeats.{has-more, is_added, repeats_more, repeats_to}
-use Rattle.text_parts.proofs.Tellings.{after, with_none}
+use Rattle.text_syntax.proofs.Tellings.{after, with_none}
 use Rattle.inventory_read.proofs.Walks.{at_top}
 use Rattle.inventory_read.proofs.bounds.check_repeats.Goals as goal
 

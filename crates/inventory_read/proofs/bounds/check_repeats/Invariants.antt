@@ -3,7 +3,7 @@ use Rattle.std.proofs.Common.{◌≡◌, List, ℕ, map, take}
 use Rattle.std.specs.List.{list_any}
 use Rattle.group_tree.specs.Names.{same_name, is_among}
 use Rattle.inventory_read.specs.Listings.{name_of}
-use Rattle.text_parts.specs.Telling.{with_breaches}
+use Rattle.text_syntax.specs.Telling.{with_breaches}
 use Rattle.inventory_read.proofs.Repeats.{repeats_to}
 use Rattle.inventory_read.proofs.bounds.check_repeats.Given as goal
 

@@ -2,12 +2,12 @@ use Rattle.std.proofs.Common.{◌≡◌, List, map, sym, ap, ◌∙◌}
 use Rattle.std.proofs.lemmas.Result.{on_ok_weaker}
 use Rattle.group_tree.specs.Names.{Name}
 use Rattle.group_tree.specs.Bounds.{group_names, are_within_depth, depth_bound}
-use Rattle.text_parts.specs.Breaches.{unless}
+use Rattle.text_syntax.specs.Breaches.{unless}
 use Rattle.inventory_read.specs.Rules.{TooDeep, TooMany, repeats}
-use Rattle.text_parts.specs.Telling.{with_breaches}
+use Rattle.text_syntax.specs.Telling.{with_breaches}
 use Rattle.inventory_read.specs.Values.{place_of}
 use Rattle.inventory_read.proofs.Counts.{few, names-are, depths-are, few-are}
-use Rattle.text_parts.proofs.Tellings.{after, with_none}
+use Rattle.text_syntax.proofs.Tellings.{after, with_none}
 use Rattle.inventory_read.proofs.Walks.{at_top}
 use Rattle.inventory_read.proofs.bounds.check_tree.Goals as goal
 

@@ -1,5 +1,5 @@
 use Rattle.std.proofs.Common.{map, length, sym, ap, ◌∙◌}
-use Rattle.text_parts.specs.Shapes.{entries}
+use Rattle.text_syntax.specs.Shapes.{entries}
 use Rattle.inventory_read.specs.Values.{host_of}
 use Rattle.inventory_read.proofs.Counts.{length-hosts}
 use Rattle.inventory_read.proofs.bounds.count_hosts.Goals as goal

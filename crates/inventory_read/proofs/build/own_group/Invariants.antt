@@ -1,7 +1,7 @@
 use Rattle.std.proofs.Common.{◌≡◌, ◌++◌, true, map}
 use Rattle.std.specs.List.{list_all}
 use Rattle.serde_json.specs.View.{members_view}
-use Rattle.text_parts.specs.Shapes.{entries}
+use Rattle.text_syntax.specs.Shapes.{entries}
 use Rattle.inventory_read.specs.Named.{has_name}
 use Rattle.inventory_read.specs.Values.{host_of}
 use Rattle.inventory_read.proofs.build.own_group.Given as goal

@@ -7,7 +7,7 @@ use Rattle.inventory_read.specs.Documents.{below_body, groups_among, with_below}
 use Rattle.inventory_read.specs.Listings.{broken_from, most, outline_at, outline_of, texts}
 use Rattle.inventory_read.specs.Paths.{text_path}
 use Rattle.inventory_read.specs.Rules.{placed, broken_by_group}
-use Rattle.text_parts.specs.Telling.{with_breaches}
+use Rattle.text_syntax.specs.Telling.{with_breaches}
 use Rattle.inventory_read.proofs.Checks.{pop_last}
 use Rattle.inventory_read.proofs.Groups.{below_body-is, listed_more, listed_with_below}
 use Rattle.inventory_read.proofs.Walks.{pass_below, found_with_below}

@@ -5,7 +5,7 @@ use Rattle.serde_json.specs.Data.{depth, members_depth}
 use Rattle.serde_json.specs.View.{view, members_view}
 use Rattle.inventory_read.specs.Documents.{groups_among}
 use Rattle.inventory_read.specs.Listings.{broken_under, outline_at, outline_of, texts}
-use Rattle.text_parts.specs.Telling.{with_breaches}
+use Rattle.text_syntax.specs.Telling.{with_breaches}
 use Rattle.inventory_read.proofs.checking.+check_from.Given as goal
 
 abbrev pub invariant-loop-name : goal.invariant-loop-name

@@ -7,11 +7,11 @@ use Rattle.inventory_read.specs.Keys.{all_key}
 use Rattle.inventory_read.specs.Listings.{broken_from, child_of, outline_at, outline_of, way_to}
 use Rattle.inventory_read.specs.Paths.{text_path}
 use Rattle.inventory_read.specs.Rules.{placed, broken_by_group}
-use Rattle.text_parts.specs.Telling.{with_breaches}
+use Rattle.text_syntax.specs.Telling.{with_breaches}
 use Rattle.inventory_read.proofs.Checks.{broken_by_children}
 use Rattle.inventory_read.proofs.Groups.{listed_all, listed_more, outline_at-standing}
 use Rattle.inventory_read.proofs.Steps.{drop_item}
-use Rattle.text_parts.proofs.Tellings.{after, all_told}
+use Rattle.text_syntax.proofs.Tellings.{after, all_told}
 use Rattle.inventory_read.proofs.Walks.{pass_child}
 use Rattle.inventory_read.proofs.checking.check_groups.Goals as goal
 

@@ -5,7 +5,7 @@ use Rattle.serde_json.specs.View.{view}
 use Rattle.inventory_read.specs.Documents.{groups_from}
 use Rattle.inventory_read.specs.Keys.{all_key}
 use Rattle.inventory_read.specs.Listings.{child_of, outline_at, outline_of}
-use Rattle.text_parts.specs.Telling.{with_breaches}
+use Rattle.text_syntax.specs.Telling.{with_breaches}
 use Rattle.inventory_read.proofs.Checks.{broken_by_children}
 use Rattle.inventory_read.proofs.checking.check_groups.Given as goal
 

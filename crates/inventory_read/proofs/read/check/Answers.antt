@@ -4,9 +4,9 @@ use Rattle.serde_json.specs.View.{view}
 use Rattle.inventory_read.specs.Documents.{Listed, groups_of}
 use Rattle.inventory_read.specs.Listings.{listing_of, outline_of}
 use Rattle.inventory_read.specs.Rules.{Breach, bad_top, broken, broken_in}
-use Rattle.text_parts.specs.Telling.{Telling, nothing_told, with_breaches}
+use Rattle.text_syntax.specs.Telling.{Telling, nothing_told, with_breaches}
 use Rattle.inventory_read.proofs.Readings.{are_told}
-use Rattle.text_parts.proofs.Tellings.{after, with_none}
+use Rattle.text_syntax.proofs.Tellings.{after, with_none}
 use Rattle.inventory_read.proofs.read.check.Goals as goal
 
 pub returns : goal.returns

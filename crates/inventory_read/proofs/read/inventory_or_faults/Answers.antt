@@ -4,7 +4,7 @@ use Rattle.std.proofs.lemmas.Result.{IfOk-weaker, MatchResult-weaker}
 use Rattle.serde_json.specs.Data.{Data}
 use Rattle.serde_json.specs.Read.{read}
 use Rattle.serde_json.specs.View.{view}
-use Rattle.text_parts.specs.Texts.{IsNoJson}
+use Rattle.text_syntax.specs.Texts.{IsNoJson}
 use Rattle.inventory_read.specs.Rules.{NotJson, broken}
 use Rattle.inventory_read.proofs.Readings.{some_told}
 use Rattle.inventory_read.proofs.read.inventory_or_faults.Goals as goal

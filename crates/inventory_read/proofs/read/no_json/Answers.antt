@@ -1,6 +1,6 @@
 use Rattle.std.proofs.Common.{[], ◌∷◌, ap, ◌∙◌}
 use Rattle.inventory_read.specs.Rules.{Breach, NotJson}
-use Rattle.text_parts.specs.Telling.{Telling, with_breaches}
+use Rattle.text_syntax.specs.Telling.{Telling, with_breaches}
 use Rattle.inventory_read.proofs.Readings.{are_told}
 use Rattle.inventory_read.proofs.read.no_json.Goals as goal
 

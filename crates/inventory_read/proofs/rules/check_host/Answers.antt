@@ -3,7 +3,7 @@ use Rattle.std.proofs.lemmas.Result.{on_ok_weaker}
 use Rattle.inventory_read.specs.Listings.{texts}
 use Rattle.inventory_read.specs.Paths.{text_path}
 use Rattle.inventory_read.specs.Rules.{placed}
-use Rattle.text_parts.proofs.Tellings.{tested, with_none}
+use Rattle.text_syntax.proofs.Tellings.{tested, with_none}
 use Rattle.inventory_read.proofs.rules.check_host.Goals as goal
 
 pub returns : goal.returns

@@ -1,11 +1,11 @@
 use Rattle.std.proofs.Common.{◌≡◌, [], sym, ap, ◌∙◌, rules}
 use Rattle.std.specs.String.{string_bytes}
 use Rattle.serde_json.specs.View.{view, members_view}
-use Rattle.text_parts.specs.Shapes.{Entry, entries}
+use Rattle.text_syntax.specs.Shapes.{Entry, entries}
 use Rattle.inventory_read.specs.Listings.{texts, with_placed}
 use Rattle.inventory_read.specs.Paths.{text_path}
 use Rattle.inventory_read.specs.Rules.{placed, broken_by_host, broken_by_hosts}
-use Rattle.text_parts.proofs.Tellings.{all_told, pass_map, with_none}
+use Rattle.text_syntax.proofs.Tellings.{all_told, pass_map, with_none}
 use Rattle.inventory_read.proofs.rules.check_hosts.Goals as goal
 
 pub returns-in_default : goal.returns-in_default

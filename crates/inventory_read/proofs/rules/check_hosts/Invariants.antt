@@ -1,7 +1,7 @@
 -- What is left to check of the hosts.
 use Rattle.std.proofs.Common.{◌≡◌}
 use Rattle.serde_json.specs.View.{members_view}
-use Rattle.text_parts.specs.Shapes.{entries}
+use Rattle.text_syntax.specs.Shapes.{entries}
 use Rattle.inventory_read.specs.Listings.{with_placed}
 use Rattle.inventory_read.specs.Rules.{broken_by_hosts}
 use Rattle.inventory_read.proofs.rules.check_hosts.Given as goal

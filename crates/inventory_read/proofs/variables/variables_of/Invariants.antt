@@ -1,7 +1,7 @@
 use Rattle.std.proofs.Common.{◌≡◌, ◌++◌, map}
 use Rattle.serde_json.specs.View.{members_view}
 use Rattle.group_tree.specs.Scalars.{lent_variable}
-use Rattle.text_parts.specs.Shapes.{entries}
+use Rattle.text_syntax.specs.Shapes.{entries}
 use Rattle.inventory_read.specs.Values as values
 use Rattle.inventory_read.proofs.variables.variables_of.Given as goal
 

@@ -1,6 +1,6 @@
 use Rattle.std.proofs.Common.{◌∙◌, ℕ, ◌++◌, ◌∷◌, cond, List, [], sym, ap}
 use Rattle.domains.specs.Ids.{host_numbers}
-use Rattle.fleet_numbers.proofs.RisingLemmas.{numbers_where_more}
+use Rattle.fleet_index.proofs.RisingLemmas.{numbers_where_more}
 use Rattle.fleet_states.specs.declared.status.Status.{Status}
 use Rattle.fleet_states.specs.Statuses.{is_waiting, status_at}
 use Rattle.journal.proofs.writing.list_waiting.Goals as goal

@@ -1,5 +1,5 @@
 use Rattle.std.proofs.Common.{◌≡◌}
-use Rattle.fleet_numbers.specs.NumberLists.{numbers_where}
+use Rattle.fleet_index.specs.NumberLists.{numbers_where}
 use Rattle.domains.specs.Ids.{host_numbers}
 use Rattle.fleet_states.specs.Statuses.{is_waiting, status_at}
 use Rattle.journal.proofs.writing.list_waiting.Given as goal

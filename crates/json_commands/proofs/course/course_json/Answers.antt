@@ -4,11 +4,11 @@ use Rattle.std.specs.List.{sum_by}
 use Rattle.bounded_io.specs.Sending.{SendsFirst}
 use Rattle.domains.specs.FleetViews.{FleetView}
 use Rattle.play_model.specs.declared.play.Play.{Play}
-use Rattle.planning.proofs.PlayLemmas.{has_play}
-use Rattle.rehearsing.specs.CourseSteps.{course_of}
-use Rattle.rehearsing.specs.CourseTexts.{AreCoursesBy, batches_opened, failing_by}
-use Rattle.rehearsing.specs.declared.course.PlayCourse.{PlayCourse}
-use Rattle.rehearsing.proofs.CourseTextLemmas.{counted, few_plays}
+use Rattle.plan_command.proofs.PlayLemmas.{has_play}
+use Rattle.rehearse.specs.CourseSteps.{course_of}
+use Rattle.rehearse.specs.CourseTexts.{AreCoursesBy, batches_opened, failing_by}
+use Rattle.rehearse.specs.declared.course.PlayCourse.{PlayCourse}
+use Rattle.rehearse.proofs.CourseTextLemmas.{counted, few_plays}
 use Rattle.json_commands.specs.CourseTexts.{courses_json}
 use Rattle.json_commands.proofs.JsonLemmas.{breaks_course, refused_course, writes_course}
 use Rattle.json_commands.proofs.course.course_json.Goals as goal

@@ -1,6 +1,6 @@
 use Rattle.std.proofs.Common.{ℕ, Option, List, map, rules, subst}
 use Rattle.bounded_io.specs.Sending.{SendsText}
-use Rattle.rehearsing.specs.CourseSteps.{course_of}
+use Rattle.rehearse.specs.CourseSteps.{course_of}
 use Rattle.json_commands.specs.CourseTexts.{courses_json}
 use Rattle.json_commands.proofs.courses.send_courses_json.Goals as goal
 

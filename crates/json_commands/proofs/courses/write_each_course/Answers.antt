@@ -2,12 +2,12 @@ use Rattle.std.proofs.Common.{ℕ, ◌+◌, ◌++◌, List, map, nat_lt, subst}
 use Rattle.std.proofs.lemmas.List.{take_all}
 use Rattle.bounded_io.specs.Writing.{Writes}
 use Rattle.bounded_io.proofs.WritingLemmas.{writes_two}
-use Rattle.play_course.specs.Files.{Course}
-use Rattle.rehearsing.specs.CourseSteps.{course_of}
-use Rattle.rehearsing.specs.declared.course.PlayCourse.{PlayCourse}
-use Rattle.json_texts.specs.Arrays.{comma_if, entries_text}
-use Rattle.json_texts.specs.PlayJson.{course_json}
-use Rattle.json_texts.proofs.ArrayLemmas.{mapped_more}
+use Rattle.play_forecast.specs.Files.{Course}
+use Rattle.rehearse.specs.CourseSteps.{course_of}
+use Rattle.rehearse.specs.declared.course.PlayCourse.{PlayCourse}
+use Rattle.json_output.specs.Arrays.{comma_if, entries_text}
+use Rattle.json_output.specs.PlayJson.{course_json}
+use Rattle.json_output.proofs.ArrayLemmas.{mapped_more}
 use Rattle.json_commands.proofs.courses.write_each_course.Goals as goal
 
 pub loop-place-preserved : goal.loop-place-preserved

@@ -1,8 +1,8 @@
 use Rattle.std.proofs.Common.{◌+◌, map, take}
 use Rattle.bounded_io.specs.Writing.{Writes}
-use Rattle.rehearsing.specs.CourseSteps.{course_of}
-use Rattle.json_texts.specs.Arrays.{entries_text}
-use Rattle.json_texts.specs.PlayJson.{course_json}
+use Rattle.rehearse.specs.CourseSteps.{course_of}
+use Rattle.json_output.specs.Arrays.{entries_text}
+use Rattle.json_output.specs.PlayJson.{course_json}
 use Rattle.json_commands.proofs.courses.write_each_course.Given as goal
 
 abbrev pub invariant-loop-place : goal.invariant-loop-place

@@ -1,9 +1,9 @@
 use Rattle.std.proofs.Common.{◌+◌, List, refl, subst}
 use Rattle.bounded_io.specs.Writing.{Writes}
 use Rattle.bounded_io.proofs.WritingLemmas.{writes_two}
-use Rattle.play_course.specs.Files.{Course}
-use Rattle.play_course.specs.declared.boundary.Boundary.{Boundary}
-use Rattle.json_texts.specs.PlayJson.{course_json}
+use Rattle.play_forecast.specs.Files.{Course}
+use Rattle.play_forecast.specs.declared.boundary.Boundary.{Boundary}
+use Rattle.json_output.specs.PlayJson.{course_json}
 use Rattle.json_commands.proofs.courses.write_entry.Goals as goal
 
 pub returns : goal.returns

@@ -1,7 +1,7 @@
 use Rattle.std.proofs.Common.{◌<◌, List, length, arith}
 use Rattle.domains.specs.Ids.{host_numbers}
 use Rattle.play_model.specs.declared.play.Play.{Play}
-use Rattle.planning.proofs.PlayLemmas.{has_play}
+use Rattle.plan_command.proofs.PlayLemmas.{has_play}
 use Rattle.json_commands.proofs.PlanLemmas.{first_fault, first_plan}
 use Rattle.json_commands.proofs.plan.plan_playbook.Goals as goal
 

@@ -1,6 +1,6 @@
 use Rattle.std.proofs.Common.{◌≡◌, ◌+◌, ℕ, List, [], length, drop}
 use Rattle.plan_check.specs.Inside.{AreMarks}
-use Rattle.plan_check.specs.Wrongs.{wrong_from}
+use Rattle.plan_check.specs.PlanErrors.{wrong_from}
 use Rattle.plan_check.proofs.batches.wrong_from.Given as goal
 
 abbrev pub invariant-loop-place : goal.invariant-loop-place

@@ -1,7 +1,7 @@
 use Rattle.std.proofs.Common.{◌<◌, List, length, refl, sym, ◌∙◌, arith}
 use Rattle.std.proofs.KnownBytes.{Keeps-refl}
 use Rattle.play_model.specs.declared.play.Play.{Play}
-use Rattle.planning.proofs.PlayLemmas.{has_play}
+use Rattle.plan_command.proofs.PlayLemmas.{has_play}
 use Rattle.plan_check.specs.Shown.{shown}
 use Rattle.plan_check.specs.Verdicts.{end_of}
 use Rattle.plan_check.specs.VerdictText.{verdict_text}

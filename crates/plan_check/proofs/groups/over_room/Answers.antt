@@ -1,6 +1,6 @@
 use Rattle.std.proofs.Common.{ℕ, Some, get_or, sym, ap, ◌∙◌, arith}
 use Rattle.domains.specs.Ids.{host_numbers}
-use Rattle.plan_check.specs.Wrongs.{group_id}
+use Rattle.plan_check.specs.PlanErrors.{group_id}
 use Rattle.plan_check.specs.declared.wrong.Wrong.{Wrong}
 use Rattle.plan_check.specs.declared.wrong.Wrong.TheVariants.{Over}
 use Rattle.plan_check.proofs.GroupLemmas.{over_none, over_some, over_within}

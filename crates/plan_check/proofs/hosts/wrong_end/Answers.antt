@@ -1,5 +1,5 @@
 use Rattle.std.proofs.Common.{◌&&◌, not, sym, ap, ◌∙◌, arith}
-use Rattle.fleet_numbers.specs.NumberLists.{has_number}
+use Rattle.fleet_index.specs.NumberLists.{has_number}
 use Rattle.plan_check.proofs.HostLemmas.{end_at, end_none}
 use Rattle.plan_check.proofs.hosts.wrong_end.Goals as goal
 

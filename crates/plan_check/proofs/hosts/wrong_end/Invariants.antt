@@ -1,6 +1,6 @@
 use Rattle.std.proofs.Common.{◌≡◌, ◌<◌, ℕ, false, List}
 use Rattle.plan_check.specs.Inside.{AreMarks}
-use Rattle.plan_check.specs.Wrongs.{is_left_out}
+use Rattle.plan_check.specs.PlanErrors.{is_left_out}
 use Rattle.plan_check.proofs.hosts.wrong_end.Given as goal
 
 abbrev pub invariant-loop-index : goal.invariant-loop-index

@@ -4,7 +4,7 @@ use Rattle.group_tree.specs.declared.ids.HostId.{HostId}
 use Rattle.domains.specs.Ids.{host_numbers}
 use Rattle.fleet_states.proofs.HostLemmas.{length-host_numbers, number_of_host}
 use Rattle.plan_check.specs.Inside.{AreMarks}
-use Rattle.plan_check.specs.Wrongs.{wrong_host}
+use Rattle.plan_check.specs.PlanErrors.{wrong_host}
 use Rattle.plan_check.specs.declared.wrong.Wrong.{Wrong}
 use Rattle.plan_check.proofs.HostLemmas.{so_far, stood_more, wrong_here, wrong_later}
 use Rattle.plan_check.proofs.hosts.wrong_hosts.Goals as goal

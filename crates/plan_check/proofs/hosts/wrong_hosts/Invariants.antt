@@ -1,7 +1,7 @@
 use Rattle.std.proofs.Common.{◌≡◌, ℕ, List, length, take, drop}
 use Rattle.domains.specs.Ids.{host_numbers}
 use Rattle.plan_check.specs.Inside.{AreMarks}
-use Rattle.plan_check.specs.Wrongs.{behind, wrong_hosts}
+use Rattle.plan_check.specs.PlanErrors.{behind, wrong_hosts}
 use Rattle.plan_check.proofs.hosts.wrong_hosts.Given as goal
 
 abbrev pub invariant-loop-host : goal.invariant-loop-host

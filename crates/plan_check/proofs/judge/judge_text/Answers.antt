@@ -4,7 +4,7 @@ use Rattle.plan_check.specs.Inside.{AreNamedBatches}
 use Rattle.plan_check.specs.Listings.{batches_of}
 use Rattle.plan_check.specs.Names.{nobody_in}
 use Rattle.plan_check.specs.Verdicts.{judged, verdict_by}
-use Rattle.plan_check.specs.Wrongs.{wrong_with}
+use Rattle.plan_check.specs.PlanErrors.{first_plan_error}
 use Rattle.plan_check.specs.declared.naming.NamedBatches.{NamedBatches}
 use Rattle.plan_check.proofs.VerdictLemmas.{known_told, same_ok}
 use Rattle.plan_check.proofs.judge.judge_text.Goals as goal
@@ -17,7 +17,7 @@ returns-in-Batches c =
     let names : List (List Name) = batches_of c.args.text.now in
     let found = c.in-Batches.batches in
     let named = subst (λ (n : NamedBatches). AreNamedBatches fleet names n) c.in-Batches.is c.in_ok-batches.ensures in
-    same_ok c.judge_batches.result (verdict_by (length found) c.args.least (wrong_with fleet statuses cap found))
+    same_ok c.judge_batches.result (verdict_by (length found) c.args.least (first_plan_error fleet statuses cap found))
     (judged fleet statuses cap c.args.least names (nobody_in fleet names)) c.judge_batches.ensures
     (known_told fleet statuses cap c.args.least names found named.0 named.1)
 

@@ -1,8 +1,8 @@
 use Rattle.std.proofs.Common.{◌≡◌, ◌<◌, ◌∷◌, List, ℕ, length, take, drop, not, sym, ap, ◌∙◌, subst, arith}
 use Rattle.std.proofs.lemmas.Bool.Decides.{nat_tests}
 use Rattle.std.proofs.lemmas.List.Sums.{prefix_len-le-length}
-use Rattle.rehearsing.specs.Commands.{is_blank, words_of}
-use Rattle.rehearsing.proofs.WordLemmas.{TakesWord, no_word, takes_word}
+use Rattle.rehearse.specs.Commands.{is_blank, words_of}
+use Rattle.rehearse.proofs.WordLemmas.{TakesWord, no_word, takes_word}
 use Rattle.plan_check.proofs.lines.cut_word.Goals as goal
 
 pub split_at-requires : goal.split_at-requires

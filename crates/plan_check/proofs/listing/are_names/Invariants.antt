@@ -1,7 +1,7 @@
 use Rattle.std.proofs.Common.{◌≡◌, length}
 use Rattle.std.specs.List.{list_all}
 use Rattle.group_tree.specs.Names.{is_name}
-use Rattle.rehearsing.specs.Commands.{words_of}
+use Rattle.rehearse.specs.Commands.{words_of}
 use Rattle.plan_check.proofs.listing.are_names.Given as goal
 
 abbrev pub invariant-loop-word : goal.invariant-loop-word

@@ -1,4 +1,4 @@
-use Rattle.rehearsing.proofs.NameLemmas.{found_host, no_text}
+use Rattle.rehearse.proofs.NameLemmas.{found_host, no_text}
 use Rattle.plan_check.proofs.naming.find_host.Goals as goal
 
 pub returns-in-Ok : goal.returns-in-Ok

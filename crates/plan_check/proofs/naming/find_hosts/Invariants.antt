@@ -1,6 +1,6 @@
 use Rattle.std.proofs.Common.{◌≡◌, ◌++◌, length}
-use Rattle.rehearsing.specs.Commands.{words_of}
-use Rattle.rehearsing.specs.Names.{first_nobody, hosts_named}
+use Rattle.rehearse.specs.Commands.{words_of}
+use Rattle.rehearse.specs.Names.{first_nobody, hosts_named}
 use Rattle.plan_check.proofs.naming.find_hosts.Given as goal
 
 abbrev pub invariant-loop-name : goal.invariant-loop-name

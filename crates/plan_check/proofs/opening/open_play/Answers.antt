@@ -2,7 +2,7 @@ use Rattle.std.proofs.Common.{◌≡◌, ℕ, List, length, sym, ap, ◌∙◌, 
 use Rattle.std.specs.List.{list_any}
 use Rattle.std.proofs.lemmas.List.{with_items_is}
 use Rattle.group_tree.specs.declared.ids.HostId.{HostId}
-use Rattle.text_parts.specs.Patterns.{parts_of}
+use Rattle.text_syntax.specs.Patterns.{parts_of}
 use Rattle.domains.specs.Ids.{host_numbers}
 use Rattle.domains.specs.Patterns.{is_named_by, named_hosts}
 use Rattle.batch_plan.proofs.WhereLemmas.{length-where}
@@ -10,7 +10,7 @@ use Rattle.batch_plan.specs.Holding.{set_aside}
 use Rattle.fleet_states.specs.Starts.{start_statuses}
 use Rattle.fleet_states.proofs.HostLemmas.{length-host_numbers}
 use Rattle.play_model.specs.Sizes.{cap}
-use Rattle.play_course.specs.PlayPlans.{aside_at_start, targets}
+use Rattle.play_forecast.specs.PlayPlans.{aside_at_start, targets}
 use Rattle.plan_check.proofs.opening.open_play.Goals as goal
 
 pub count-requires : goal.count-requires

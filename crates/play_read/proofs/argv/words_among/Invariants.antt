@@ -1,7 +1,7 @@
 use Rattle.std.proofs.Common.{◌≡◌, ◌++◌, map, drop}
 use Rattle.std.specs.List.{filter_map}
 use Rattle.serde_json.specs.View.{view}
-use Rattle.play_rules.specs.Commands.{word_of}
+use Rattle.playbook_schema.specs.Commands.{word_of}
 use Rattle.play_read.proofs.argv.words_among.Given as goal
 
 abbrev pub invariant-loop-value : goal.invariant-loop-value

@@ -1,13 +1,13 @@
 use Rattle.std.proofs.Common.{◌∷◌, [], Bool, Option, Some, List, not, map, sym, ap, ◌∙◌}
 use Rattle.std.specs.List.{list_any}
 use Rattle.serde_json.specs.View.{view}
-use Rattle.text_parts.specs.Words.{has_braces}
-use Rattle.play_rules.specs.Breaches.{Broken, BadBraces, BadShape, unless}
-use Rattle.play_rules.specs.CommandPlaces.{bad_path, bad_words}
-use Rattle.play_rules.specs.Commands.{Word, words_in}
-use Rattle.play_rules.specs.Paths.{Path}
-use Rattle.play_rules.specs.Places.{path_at, spot_of}
-use Rattle.play_rules.proofs.AddLaws.{adds_same}
+use Rattle.text_syntax.specs.Words.{has_braces}
+use Rattle.playbook_schema.specs.Breaches.{Broken, BadBraces, BadShape, unless}
+use Rattle.playbook_schema.specs.CommandPlaces.{bad_path, bad_words}
+use Rattle.playbook_schema.specs.Commands.{Word, words_in}
+use Rattle.playbook_schema.specs.Paths.{Path}
+use Rattle.playbook_schema.specs.Places.{path_at, spot_of}
+use Rattle.playbook_schema.proofs.AddLaws.{adds_same}
 use Rattle.play_read.proofs.command.read_command.Goals as goal
 
 pub returns-in-Some-clause-found : goal.returns-in-Some-clause-found

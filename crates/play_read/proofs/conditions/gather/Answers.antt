@@ -3,12 +3,12 @@ use Rattle.std.specs.List.{filter_map, flat_map}
 use Rattle.std.proofs.lemmas.List.{drop_all}
 use Rattle.serde_json.specs.View.{view}
 use Rattle.serde_json.specs.declared.value.Value.{Value}
-use Rattle.play_rules.specs.Breaches.{where_given}
-use Rattle.play_rules.specs.Conditions as rules
-use Rattle.play_rules.specs.Conditions.{clause_of, asked_of}
-use Rattle.play_rules.specs.Faults.{key_name}
-use Rattle.play_rules.specs.Places.{path_at, spot_of}
-use Rattle.play_rules.proofs.AddLaws.{kept_one, leads_end, leads_on, leads_start}
+use Rattle.playbook_schema.specs.Breaches.{where_given}
+use Rattle.playbook_schema.specs.Conditions as rules
+use Rattle.playbook_schema.specs.Conditions.{clause_of, asked_of}
+use Rattle.playbook_schema.specs.Faults.{key_name}
+use Rattle.playbook_schema.specs.Places.{path_at, spot_of}
+use Rattle.playbook_schema.proofs.AddLaws.{kept_one, leads_end, leads_on, leads_start}
 use Rattle.play_read.specs.Says.{Gathers}
 use Rattle.play_read.proofs.Readings.{asked_on, with_part, gathers_more, with_consed, left_at}
 use Rattle.play_read.proofs.conditions.gather.Goals as goal

@@ -2,12 +2,12 @@
 use Rattle.std.proofs.Common.{◌≡◌, ◌++◌, List, map, drop}
 use Rattle.std.specs.List.{filter_map, flat_map}
 use Rattle.serde_json.specs.View.{view}
-use Rattle.play_rules.specs.Checks.{AllKept}
-use Rattle.play_rules.specs.Conditions as rules
-use Rattle.play_rules.specs.Conditions.{asked_of, clause_of}
-use Rattle.play_rules.specs.Faults.{key_name}
-use Rattle.play_rules.specs.Places.{path_at, spot_of}
-use Rattle.play_rules.proofs.AddLaws.{Leads}
+use Rattle.playbook_schema.specs.Checks.{AllKept}
+use Rattle.playbook_schema.specs.Conditions as rules
+use Rattle.playbook_schema.specs.Conditions.{asked_of, clause_of}
+use Rattle.playbook_schema.specs.Faults.{key_name}
+use Rattle.playbook_schema.specs.Places.{path_at, spot_of}
+use Rattle.playbook_schema.proofs.AddLaws.{Leads}
 use Rattle.play_read.specs.Says.{Gathers}
 use Rattle.play_read.proofs.conditions.gather.Given as goal
 

@@ -1,7 +1,7 @@
 use Rattle.std.proofs.lemmas.Result.{on_ok_weaker}
-use Rattle.play_rules.specs.Faults.{key_name}
-use Rattle.play_rules.specs.Places.{path_at, spot_of}
-use Rattle.play_rules.proofs.AddLaws.{adds_silent}
+use Rattle.playbook_schema.specs.Faults.{key_name}
+use Rattle.playbook_schema.specs.Places.{path_at, spot_of}
+use Rattle.playbook_schema.proofs.AddLaws.{adds_silent}
 use Rattle.play_read.proofs.Readings.{added_is_condition}
 use Rattle.play_read.proofs.conditions.join_text.Goals as goal
 

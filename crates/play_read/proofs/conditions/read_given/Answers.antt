@@ -1,7 +1,7 @@
 use Rattle.std.proofs.Common.{sym, ap, ◌∙◌}
 use Rattle.serde_json.specs.View.{view}
-use Rattle.play_rules.specs.Faults.{key_name}
-use Rattle.play_rules.specs.Places.{spot_of}
+use Rattle.playbook_schema.specs.Faults.{key_name}
+use Rattle.playbook_schema.specs.Places.{spot_of}
 use Rattle.play_read.proofs.Given.{says_given, some_listed, texts_kept}
 use Rattle.play_read.proofs.conditions.read_given.Goals as goal
 

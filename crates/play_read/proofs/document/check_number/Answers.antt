@@ -1,7 +1,7 @@
 use Rattle.std.proofs.Common.{[], Bool, nat_lt, map, refl, ap}
 use Rattle.std.specs.Prelude.{nat_le}
-use Rattle.play_rules.specs.Breaches.{BadShape, Broken, ManyPlays, unless}
-use Rattle.play_rules.proofs.AddLaws.{adds_rules, adds_same}
+use Rattle.playbook_schema.specs.Breaches.{BadShape, Broken, ManyPlays, unless}
+use Rattle.playbook_schema.proofs.AddLaws.{adds_rules, adds_same}
 use Rattle.play_read.proofs.document.check_number.Goals as goal
 
 pub returns : goal.returns

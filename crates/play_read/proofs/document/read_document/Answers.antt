@@ -5,11 +5,11 @@ use Rattle.std.proofs.lemmas.Bool.{both_ways}
 use Rattle.std.proofs.lemmas.Result.{IfOk-weaker, on_ok_weaker}
 use Rattle.serde_json.specs.Data.{Data}
 use Rattle.serde_json.specs.View.{view}
-use Rattle.text_parts.proofs.BreachLaws.{kept, no_second}
-use Rattle.play_rules.specs.Breaches.{BadShape, Broken, Check, ManyPlays, unless}
-use Rattle.play_rules.specs.Plays.{bad_number, checks, checks_of_plays, play_of, plays_in}
-use Rattle.play_rules.proofs.AddLaws.{adds_same, adds_two, kept_in_silence}
-use Rattle.play_rules.proofs.CheckLaws.{kept_rules}
+use Rattle.text_syntax.proofs.BreachLaws.{kept, no_second}
+use Rattle.playbook_schema.specs.Breaches.{BadShape, Broken, Check, ManyPlays, unless}
+use Rattle.playbook_schema.specs.Plays.{bad_number, checks, checks_of_plays, play_of, plays_in}
+use Rattle.playbook_schema.proofs.AddLaws.{adds_same, adds_two, kept_in_silence}
+use Rattle.playbook_schema.proofs.CheckLaws.{kept_rules}
 use Rattle.play_read.specs.Reads.{IsPlay}
 use Rattle.play_read.proofs.Lists.{as_many}
 use Rattle.play_read.proofs.document.read_document.Goals as goal

@@ -2,8 +2,8 @@ use Rattle.std.proofs.Common.{◌≡◌, ◌+◌, ◌++◌, [], ℕ, Option, Lis
 use Rattle.std.proofs.lemmas.List.{drop_all}
 use Rattle.serde_json.specs.View.{view}
 use Rattle.serde_json.specs.declared.value.Value.{Value}
-use Rattle.play_rules.specs.Plays.{checks_of_play, checks_of_plays, play_of, told}
-use Rattle.play_rules.proofs.AddLaws.{leads_end, leads_on, silent_before}
+use Rattle.playbook_schema.specs.Plays.{checks_of_play, checks_of_plays, play_of, told}
+use Rattle.playbook_schema.proofs.AddLaws.{leads_end, leads_on, silent_before}
 use Rattle.play_read.specs.Reads.{IsPlay}
 use Rattle.play_read.proofs.Lists.{left_at, taken_at, all_zip_more}
 use Rattle.play_read.proofs.document.read_each.Goals as goal

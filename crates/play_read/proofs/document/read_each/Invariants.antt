@@ -1,9 +1,9 @@
 use Rattle.std.proofs.Common.{◌≡◌, [], true, length, nat_lt, map, take, drop}
 use Rattle.std.specs.List.{AllZip}
 use Rattle.serde_json.specs.View.{view}
-use Rattle.play_rules.specs.Plays.{checks_of_plays, play_of}
-use Rattle.play_rules.specs.ToldFaults.{is_silent}
-use Rattle.play_rules.proofs.AddLaws.{Leads}
+use Rattle.playbook_schema.specs.Plays.{checks_of_plays, play_of}
+use Rattle.playbook_schema.specs.ToldFaults.{is_silent}
+use Rattle.playbook_schema.proofs.AddLaws.{Leads}
 use Rattle.play_read.specs.Reads.{IsPlay}
 use Rattle.play_read.proofs.document.read_each.Given as goal
 

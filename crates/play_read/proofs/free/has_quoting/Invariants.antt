@@ -1,6 +1,6 @@
 use Rattle.std.proofs.Common.{◌≡◌, ◌||◌, drop}
 use Rattle.std.specs.List.{list_any}
-use Rattle.play_rules.specs.Commands.{is_quoting}
+use Rattle.playbook_schema.specs.Commands.{is_quoting}
 use Rattle.play_read.proofs.free.has_quoting.Given as goal
 
 abbrev pub invariant-loop-byte : goal.invariant-loop-byte

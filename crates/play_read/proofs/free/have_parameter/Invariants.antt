@@ -1,6 +1,6 @@
 use Rattle.std.proofs.Common.{◌≡◌, drop}
 use Rattle.std.specs.List.{list_any}
-use Rattle.play_rules.specs.Commands.{is_parameter}
+use Rattle.playbook_schema.specs.Commands.{is_parameter}
 use Rattle.play_read.proofs.free.have_parameter.Given as goal
 
 abbrev pub invariant-loop-place : goal.invariant-loop-place

@@ -3,13 +3,13 @@ use Rattle.std.specs.List.{cons_option}
 use Rattle.std.proofs.lemmas.Result.{on_ok_weaker}
 use Rattle.serde_json.specs.View.{view}
 use Rattle.group_tree.specs.Names.{Name}
-use Rattle.play_rules.specs.Breaches.{Broken, where_given}
-use Rattle.play_rules.specs.Known.{known}
-use Rattle.play_rules.specs.Names.{once}
-use Rattle.play_rules.specs.Places.{path_at}
-use Rattle.play_rules.specs.Steps.{twice}
-use Rattle.play_rules.proofs.AddLaws.{adds_none, adds_same}
-use Rattle.play_rules.proofs.NameLaws.{once_alone}
+use Rattle.playbook_schema.specs.Breaches.{Broken, where_given}
+use Rattle.playbook_schema.specs.Known.{known}
+use Rattle.playbook_schema.specs.Names.{once}
+use Rattle.playbook_schema.specs.Places.{path_at}
+use Rattle.playbook_schema.specs.Steps.{twice}
+use Rattle.playbook_schema.proofs.AddLaws.{adds_none, adds_same}
+use Rattle.playbook_schema.proofs.NameLaws.{once_alone}
 use Rattle.play_read.proofs.handlers.check_name.Goals as goal
 
 pub returns-in-Some-clause-found : goal.returns-in-Some-clause-found

@@ -6,16 +6,16 @@ use Rattle.serde_json.specs.View.{view}
 use Rattle.serde_json.specs.declared.value.Value.{Value}
 use Rattle.group_tree.specs.Names.{Name}
 use Rattle.play_model.specs.declared.step.Step.{Step}
-use Rattle.play_rules.specs.Breaches.{all_in}
-use Rattle.play_rules.specs.Known.{known}
-use Rattle.play_rules.specs.Names.{once}
-use Rattle.play_rules.specs.Paths.{handler_path}
-use Rattle.play_rules.specs.Places.{play_path}
-use Rattle.play_rules.specs.Plays.{checks_of_handlers, spot_at}
-use Rattle.play_rules.specs.Steps.{checks_of_handler, name_in, handler_of}
-use Rattle.play_rules.proofs.AddLaws.{adds_inside, kept_one, leads_end, leads_on, leads_start}
-use Rattle.play_rules.proofs.CheckLaws.{kept_from}
-use Rattle.play_rules.proofs.NameLaws.{once-append}
+use Rattle.playbook_schema.specs.Breaches.{all_in}
+use Rattle.playbook_schema.specs.Known.{known}
+use Rattle.playbook_schema.specs.Names.{once}
+use Rattle.playbook_schema.specs.Paths.{handler_path}
+use Rattle.playbook_schema.specs.Places.{play_path}
+use Rattle.playbook_schema.specs.Plays.{checks_of_handlers, spot_at}
+use Rattle.playbook_schema.specs.Steps.{checks_of_handler, name_in, handler_of}
+use Rattle.playbook_schema.proofs.AddLaws.{adds_inside, kept_one, leads_end, leads_on, leads_start}
+use Rattle.playbook_schema.proofs.CheckLaws.{kept_from}
+use Rattle.playbook_schema.proofs.NameLaws.{once-append}
 use Rattle.play_read.specs.Readings.{IsStep}
 use Rattle.play_read.specs.Reads.{AreSteps}
 use Rattle.play_read.proofs.Lists.{left_at, taken_at, all_zip_more}

@@ -1,13 +1,13 @@
 use Rattle.std.proofs.Common.{◌≡◌, ◌+◌, [], length, map, take, drop}
 use Rattle.std.specs.List.{filter_map}
 use Rattle.serde_json.specs.View.{view}
-use Rattle.play_rules.specs.Checks.{AllKept}
-use Rattle.play_rules.specs.Known.{known}
-use Rattle.play_rules.specs.Names.{once}
-use Rattle.play_rules.specs.Places.{play_path}
-use Rattle.play_rules.specs.Plays.{checks_of_handlers}
-use Rattle.play_rules.specs.Steps.{name_in, handler_of}
-use Rattle.play_rules.proofs.AddLaws.{Leads}
+use Rattle.playbook_schema.specs.Checks.{AllKept}
+use Rattle.playbook_schema.specs.Known.{known}
+use Rattle.playbook_schema.specs.Names.{once}
+use Rattle.playbook_schema.specs.Places.{play_path}
+use Rattle.playbook_schema.specs.Plays.{checks_of_handlers}
+use Rattle.playbook_schema.specs.Steps.{name_in, handler_of}
+use Rattle.playbook_schema.proofs.AddLaws.{Leads}
 use Rattle.play_read.specs.Reads.{AreSteps}
 use Rattle.play_read.proofs.handlers.read_handlers.Given as goal
 

@@ -1,6 +1,6 @@
 use Rattle.std.proofs.Common.{◌≡◌, false, drop, sym, ap, ◌∙◌}
-use Rattle.text_parts.specs.Words.{starts}
-use Rattle.text_parts.proofs.PlainLemmas.{rest_is}
+use Rattle.text_syntax.specs.Words.{starts}
+use Rattle.text_syntax.proofs.PlainLemmas.{rest_is}
 use Rattle.play_read.proofs.Closings.{next_closing}
 use Rattle.play_read.proofs.holes.before_closing.Goals as goal
 

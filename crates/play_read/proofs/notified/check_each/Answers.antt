@@ -5,9 +5,9 @@ use Rattle.serde_json.specs.Find.{as_str}
 use Rattle.serde_json.specs.View.{view}
 use Rattle.serde_json.specs.declared.value.Value.{Value}
 use Rattle.group_tree.specs.Names.{Name}
-use Rattle.play_rules.specs.Known.{known, texts}
-use Rattle.play_rules.specs.Places.{path_at}
-use Rattle.play_rules.proofs.AddLaws.{Leads, leads_end, leads_on, leads_start}
+use Rattle.playbook_schema.specs.Known.{known, texts}
+use Rattle.playbook_schema.specs.Places.{path_at}
+use Rattle.playbook_schema.proofs.AddLaws.{Leads, leads_end, leads_on, leads_start}
 use Rattle.play_read.proofs.Missing.{missing_behind, missing_on}
 use Rattle.play_read.proofs.notified.check_each.Goals as goal
 

@@ -1,7 +1,7 @@
 use Rattle.std.proofs.Common.{[], drop}
-use Rattle.play_rules.specs.Known.{known, texts}
-use Rattle.play_rules.specs.Places.{path_at}
-use Rattle.play_rules.proofs.AddLaws.{Leads}
+use Rattle.playbook_schema.specs.Known.{known, texts}
+use Rattle.playbook_schema.specs.Places.{path_at}
+use Rattle.playbook_schema.proofs.AddLaws.{Leads}
 use Rattle.play_read.proofs.Missing.{missing_behind}
 use Rattle.play_read.proofs.notified.check_each.Given as goal
 

@@ -1,12 +1,12 @@
 use Rattle.std.proofs.Common.{◌≡◌, ◌∷◌, ◌++◌, [], Bool, List, true, not, map, sym, ap, ◌∙◌, append-nil}
 use Rattle.std.specs.Prelude.{filter, if◌then◌else◌}
 use Rattle.group_tree.specs.Names.{Name, is_among}
-use Rattle.play_rules.specs.Breaches.{Breach, Broken, NoSuchHandler, unless}
-use Rattle.play_rules.specs.Known.{known}
-use Rattle.play_rules.specs.Names.{once, once_more}
-use Rattle.play_rules.specs.Places.{path_at}
-use Rattle.play_rules.specs.Steps.{is_missing}
-use Rattle.play_rules.proofs.AddLaws.{adds_none, adds_same}
+use Rattle.playbook_schema.specs.Breaches.{Breach, Broken, NoSuchHandler, unless}
+use Rattle.playbook_schema.specs.Known.{known}
+use Rattle.playbook_schema.specs.Names.{once, once_more}
+use Rattle.playbook_schema.specs.Places.{path_at}
+use Rattle.playbook_schema.specs.Steps.{is_missing}
+use Rattle.playbook_schema.proofs.AddLaws.{adds_none, adds_same}
 use Rattle.play_read.proofs.Missing.{missing_now, told_new, with_handler, without_handler}
 use Rattle.play_read.proofs.notified.check_name.Goals as goal
 

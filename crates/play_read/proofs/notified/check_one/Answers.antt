@@ -3,12 +3,12 @@ use Rattle.std.specs.Prelude.{filter}
 use Rattle.std.specs.List.{cons_option}
 use Rattle.std.proofs.lemmas.Result.{on_ok_weaker}
 use Rattle.group_tree.specs.Names.{Name}
-use Rattle.play_rules.specs.Breaches.{Broken, NoSuchHandler}
-use Rattle.play_rules.specs.Known.{known}
-use Rattle.play_rules.specs.Names.{once}
-use Rattle.play_rules.specs.Places.{path_at}
-use Rattle.play_rules.specs.Steps.{is_missing}
-use Rattle.play_rules.proofs.AddLaws.{adds_none, adds_same}
+use Rattle.playbook_schema.specs.Breaches.{Broken, NoSuchHandler}
+use Rattle.playbook_schema.specs.Known.{known}
+use Rattle.playbook_schema.specs.Names.{once}
+use Rattle.playbook_schema.specs.Places.{path_at}
+use Rattle.playbook_schema.specs.Steps.{is_missing}
+use Rattle.playbook_schema.proofs.AddLaws.{adds_none, adds_same}
 use Rattle.play_read.proofs.notified.check_one.Goals as goal
 
 pub returns-in-Some-clause-found : goal.returns-in-Some-clause-found

@@ -1,7 +1,7 @@
 use Rattle.std.proofs.Common.{◌≡◌, ◌++◌, drop}
 use Rattle.std.specs.List.{filter_map}
-use Rattle.play_rules.specs.Known.{known, texts}
-use Rattle.play_rules.specs.Names.{place_of}
+use Rattle.playbook_schema.specs.Known.{known, texts}
+use Rattle.playbook_schema.specs.Names.{place_of}
 use Rattle.play_read.proofs.notified.numbers_of.Given as goal
 
 abbrev pub invariant-loop-value : goal.invariant-loop-value

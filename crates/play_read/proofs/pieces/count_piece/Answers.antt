@@ -1,7 +1,7 @@
 use Rattle.std.proofs.Common.{◌≡◌, ◌+◌, ◌≤◌, false, length, drop, get_or, sym, ap, ◌∙◌, arith, length-drop}
-use Rattle.text_parts.specs.Words.{is_blank}
-use Rattle.play_rules.specs.Commands.{hole_behind}
-use Rattle.text_parts.proofs.PlainLemmas.{rest_is}
+use Rattle.text_syntax.specs.Words.{is_blank}
+use Rattle.playbook_schema.specs.Commands.{hole_behind}
+use Rattle.text_syntax.proofs.PlainLemmas.{rest_is}
 use Rattle.play_read.proofs.FirstPieces.{length_past}
 use Rattle.play_read.proofs.pieces.count_piece.Goals as goal
 

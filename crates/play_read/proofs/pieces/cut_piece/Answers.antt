@@ -1,6 +1,6 @@
 use Rattle.std.proofs.Common.{ℕ, ◌+◌, ◌<◌, List, [], ◌∷◌, length, drop, sym, ap, ◌∙◌, subst, arith}
 use Rattle.std.specs.Str.{IsCharBoundary}
-use Rattle.play_rules.specs.Commands.{Word, pieces}
+use Rattle.playbook_schema.specs.Commands.{Word, pieces}
 use Rattle.play_read.specs.Pieces.{piece_length}
 use Rattle.play_read.proofs.FirstPieces.{piece_ends, blank_ends, whole_piece, piece_before}
 use Rattle.play_read.proofs.pieces.cut_piece.Goals as goal

@@ -4,10 +4,10 @@ use Rattle.std.specs.String.{string_bytes}
 use Rattle.std.proofs.lemmas.Bool.{both_ways, leb-true}
 use Rattle.std.proofs.lemmas.Result.{on_ok_weaker}
 use Rattle.serde_json.specs.View.{view}
-use Rattle.play_rules.specs.Breaches.{Broken, TooManySteps, all_in}
-use Rattle.play_rules.specs.Places.{play_path}
-use Rattle.play_rules.specs.Plays.{checks_of_counted, checks_of_front, checks_of_steps, has_few_steps}
-use Rattle.play_rules.proofs.AddLaws.{adds_inside, adds_two, kept_in_silence}
+use Rattle.playbook_schema.specs.Breaches.{Broken, TooManySteps, all_in}
+use Rattle.playbook_schema.specs.Places.{play_path}
+use Rattle.playbook_schema.specs.Plays.{checks_of_counted, checks_of_front, checks_of_steps, has_few_steps}
+use Rattle.playbook_schema.proofs.AddLaws.{adds_inside, adds_two, kept_in_silence}
 use Rattle.play_read.proofs.WholePlay as whole
 use Rattle.play_read.proofs.play.read_object.Goals as goal
 

@@ -2,10 +2,10 @@ use Rattle.std.proofs.Common.{[], ◌∷◌, ◌++◌, Bool, List, sym, ap, ◌�
 use Rattle.std.specs.Prelude.{if◌then◌else◌}
 use Rattle.std.proofs.lemmas.Result.{on_ok_weaker}
 use Rattle.serde_json.specs.View.{view}
-use Rattle.play_rules.specs.Breaches.{BadShape, Broken, all_in}
-use Rattle.play_rules.specs.Places.{play_path}
-use Rattle.play_rules.specs.Plays.{checks_of_counted, checks_of_front}
-use Rattle.play_rules.proofs.AddLaws.{adds_inside, adds_same, kept_in_silence}
+use Rattle.playbook_schema.specs.Breaches.{BadShape, Broken, all_in}
+use Rattle.playbook_schema.specs.Places.{play_path}
+use Rattle.playbook_schema.specs.Plays.{checks_of_counted, checks_of_front}
+use Rattle.playbook_schema.proofs.AddLaws.{adds_inside, adds_same, kept_in_silence}
 use Rattle.play_read.proofs.play.read_one.Goals as goal
 
 pub returns-then-not-is_object-clause-found : goal.returns-then-not-is_object-clause-found

@@ -3,15 +3,15 @@ use Rattle.serde_json.specs.Data.{Data}
 use Rattle.serde_json.specs.Find.{get}
 use Rattle.serde_json.specs.View.{view}
 use Rattle.group_tree.specs.Names.{Name}
-use Rattle.play_rules.specs.Breaches.{Check}
-use Rattle.play_rules.specs.Checks.{AllKept}
-use Rattle.play_rules.specs.Keys.{handlers_key}
-use Rattle.play_rules.specs.Known.{known}
-use Rattle.play_rules.specs.Places.{play_path}
-use Rattle.play_rules.specs.Plays.{are_readable, checks_of_handlers, checks_of_tasks, handler_names, handlers_in, tasks_in}
-use Rattle.play_rules.specs.Steps.{handler_of, step_of}
-use Rattle.play_rules.proofs.AddLaws.{adds_two}
-use Rattle.play_rules.proofs.CheckLaws.{kept_parts}
+use Rattle.playbook_schema.specs.Breaches.{Check}
+use Rattle.playbook_schema.specs.Checks.{AllKept}
+use Rattle.playbook_schema.specs.Keys.{handlers_key}
+use Rattle.playbook_schema.specs.Known.{known}
+use Rattle.playbook_schema.specs.Places.{play_path}
+use Rattle.playbook_schema.specs.Plays.{are_readable, checks_of_handlers, checks_of_tasks, handler_names, handlers_in, tasks_in}
+use Rattle.playbook_schema.specs.Steps.{handler_of, step_of}
+use Rattle.playbook_schema.proofs.AddLaws.{adds_two}
+use Rattle.playbook_schema.proofs.CheckLaws.{kept_parts}
 use Rattle.play_read.specs.Reads.{AreSteps}
 use Rattle.play_read.proofs.Lists.{as_many}
 use Rattle.play_read.proofs.Listed.{names_are, steps_are}

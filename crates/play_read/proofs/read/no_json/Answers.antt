@@ -1,8 +1,8 @@
 use Rattle.std.proofs.Common.{[], ◌∷◌, ap, ◌∙◌}
-use Rattle.text_parts.specs.Telling.{nothing_told, with_breaches}
-use Rattle.play_rules.specs.Breaches.{NotJson}
-use Rattle.play_rules.specs.Checks.{rule}
-use Rattle.play_rules.proofs.AddLaws.{T}
+use Rattle.text_syntax.specs.Telling.{nothing_told, with_breaches}
+use Rattle.playbook_schema.specs.Breaches.{NotJson}
+use Rattle.playbook_schema.specs.Checks.{rule}
+use Rattle.playbook_schema.proofs.AddLaws.{T}
 use Rattle.play_read.proofs.Reports.{are_told, told_one}
 use Rattle.play_read.proofs.read.no_json.Goals as goal
 

@@ -1,10 +1,10 @@
 use Rattle.std.proofs.Common.{[], List, ap, sym, ◌∙◌, subst}
 use Rattle.serde_json.specs.View.{view}
-use Rattle.text_parts.specs.Telling.{with_breaches}
-use Rattle.play_rules.specs.Breaches.{Check}
-use Rattle.play_rules.specs.Plays.{checks}
-use Rattle.play_rules.specs.Told.{Tells}
-use Rattle.play_rules.proofs.AddLaws.{T, all_top, kept_in_silence}
+use Rattle.text_syntax.specs.Telling.{with_breaches}
+use Rattle.playbook_schema.specs.Breaches.{Check}
+use Rattle.playbook_schema.specs.Plays.{checks}
+use Rattle.playbook_schema.specs.Told.{Tells}
+use Rattle.playbook_schema.proofs.AddLaws.{T, all_top, kept_in_silence}
 use Rattle.play_read.proofs.Reports.{are_told, as_silent}
 use Rattle.play_read.proofs.read.plays_in.Goals as goal
 

@@ -4,9 +4,9 @@ use Rattle.std.proofs.lemmas.Result.{IfOk-weaker, MatchResult-weaker}
 use Rattle.serde_json.specs.Data.{Data}
 use Rattle.serde_json.specs.Read.{read}
 use Rattle.serde_json.specs.View.{view}
-use Rattle.text_parts.specs.Texts.{IsNoJson}
-use Rattle.play_rules.specs.Breaches.{NotJson}
-use Rattle.play_rules.specs.Checks.{rule}
+use Rattle.text_syntax.specs.Texts.{IsNoJson}
+use Rattle.playbook_schema.specs.Breaches.{NotJson}
+use Rattle.playbook_schema.specs.Checks.{rule}
 use Rattle.play_read.proofs.Reports.{one_is_told}
 use Rattle.play_read.proofs.read.read_text.Goals as goal
 

@@ -1,6 +1,6 @@
 use Rattle.std.proofs.Common.{◌≡◌, ◌++◌, filter, IfSome}
-use Rattle.text_parts.specs.Patterns.{is_filled}
-use Rattle.play_rules.specs.Commands.{split}
+use Rattle.text_syntax.specs.Patterns.{is_filled}
+use Rattle.playbook_schema.specs.Commands.{split}
 use Rattle.play_read.specs.Pieces.{pieces_left, IsOpenBelow, size_left}
 use Rattle.play_read.proofs.split.split_words.Given as goal
 

@@ -1,11 +1,11 @@
 use Rattle.std.proofs.Common.{◌++◌, map, rules}
 use Rattle.serde_json.specs.View.{view}
-use Rattle.play_rules.specs.Breaches.{Broken}
-use Rattle.play_rules.specs.Conditions.{checks_at}
-use Rattle.play_rules.specs.Keys.{when_key, changed_key, failed_key}
-use Rattle.play_rules.specs.Places.{step_spot}
-use Rattle.play_rules.specs.Steps.{bad_ignore, checks_of_head, condition_checks}
-use Rattle.play_rules.proofs.CheckLaws.{kept_parts}
+use Rattle.playbook_schema.specs.Breaches.{Broken}
+use Rattle.playbook_schema.specs.Conditions.{checks_at}
+use Rattle.playbook_schema.specs.Keys.{when_key, changed_key, failed_key}
+use Rattle.playbook_schema.specs.Places.{step_spot}
+use Rattle.playbook_schema.specs.Steps.{bad_ignore, checks_of_head, condition_checks}
+use Rattle.playbook_schema.proofs.CheckLaws.{kept_parts}
 use Rattle.play_read.proofs.step.read_keys.Goals as goal
 
 pub returns-clause-says : goal.returns-clause-says

@@ -2,12 +2,12 @@ use Rattle.std.proofs.Common.{[], ◌∷◌, Bool, List, sym, ap, ◌∙◌, sub
 use Rattle.std.specs.Prelude.{if◌then◌else◌}
 use Rattle.std.proofs.lemmas.Result.{on_ok_weaker}
 use Rattle.serde_json.specs.View.{view}
-use Rattle.text_parts.specs.Shapes.{is_object}
-use Rattle.play_rules.specs.Breaches.{BadShape, Broken, Check}
-use Rattle.play_rules.specs.Checks.{AllKept}
-use Rattle.play_rules.specs.Places.{step_path, step_spot}
-use Rattle.play_rules.specs.Steps.{checks_of_keys, checks_of_step}
-use Rattle.play_rules.proofs.AddLaws.{adds_same}
+use Rattle.text_syntax.specs.Shapes.{is_object}
+use Rattle.playbook_schema.specs.Breaches.{BadShape, Broken, Check}
+use Rattle.playbook_schema.specs.Checks.{AllKept}
+use Rattle.playbook_schema.specs.Places.{step_path, step_spot}
+use Rattle.playbook_schema.specs.Steps.{checks_of_keys, checks_of_step}
+use Rattle.playbook_schema.proofs.AddLaws.{adds_same}
 use Rattle.play_read.proofs.step.read_step.Goals as goal
 
 pub returns-then-not-is_object-clause-found : goal.returns-then-not-is_object-clause-found

@@ -1,12 +1,12 @@
 use Rattle.std.proofs.Common.{◌++◌, map, ap}
 use Rattle.serde_json.specs.View.{view}
-use Rattle.play_rules.specs.Breaches.{Broken}
-use Rattle.play_rules.specs.Known.{known}
-use Rattle.play_rules.specs.Places.{step_path, step_spot}
-use Rattle.play_rules.specs.Steps.{bad_notify, checks_of_step, missing_handlers}
-use Rattle.play_rules.specs.declared.place.StepList.{StepList}
-use Rattle.play_rules.proofs.AddLaws.{adds_two}
-use Rattle.play_rules.proofs.CheckLaws.{kept_parts}
+use Rattle.playbook_schema.specs.Breaches.{Broken}
+use Rattle.playbook_schema.specs.Known.{known}
+use Rattle.playbook_schema.specs.Places.{step_path, step_spot}
+use Rattle.playbook_schema.specs.Steps.{bad_notify, checks_of_step, missing_handlers}
+use Rattle.playbook_schema.specs.declared.place.StepList.{StepList}
+use Rattle.playbook_schema.proofs.AddLaws.{adds_two}
+use Rattle.playbook_schema.proofs.CheckLaws.{kept_parts}
 use Rattle.play_read.proofs.tasks.read_one.Goals as goal
 
 pub returns-clause-says : goal.returns-clause-says

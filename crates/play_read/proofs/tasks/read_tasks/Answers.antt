@@ -2,14 +2,14 @@ use Rattle.std.proofs.Common.{◌+◌, [], List, map, take, drop, ap}
 use Rattle.std.proofs.lemmas.List.{drop_all}
 use Rattle.serde_json.specs.View.{view}
 use Rattle.serde_json.specs.declared.value.Value.{Value}
-use Rattle.play_rules.specs.Breaches.{all_in}
-use Rattle.play_rules.specs.Known.{known}
-use Rattle.play_rules.specs.Paths.{task_path}
-use Rattle.play_rules.specs.Places.{play_path}
-use Rattle.play_rules.specs.Plays.{checks_of_tasks, spot_at}
-use Rattle.play_rules.specs.Steps.{checks_of_task, step_of}
-use Rattle.play_rules.proofs.AddLaws.{adds_inside, kept_one, leads_end, leads_on}
-use Rattle.play_rules.proofs.CheckLaws.{kept_from}
+use Rattle.playbook_schema.specs.Breaches.{all_in}
+use Rattle.playbook_schema.specs.Known.{known}
+use Rattle.playbook_schema.specs.Paths.{task_path}
+use Rattle.playbook_schema.specs.Places.{play_path}
+use Rattle.playbook_schema.specs.Plays.{checks_of_tasks, spot_at}
+use Rattle.playbook_schema.specs.Steps.{checks_of_task, step_of}
+use Rattle.playbook_schema.proofs.AddLaws.{adds_inside, kept_one, leads_end, leads_on}
+use Rattle.playbook_schema.proofs.CheckLaws.{kept_from}
 use Rattle.play_read.specs.Readings.{IsStep}
 use Rattle.play_read.proofs.Lists.{left_at, taken_at, all_zip_more}
 use Rattle.play_read.proofs.tasks.read_tasks.Goals as goal

@@ -1,11 +1,11 @@
 use Rattle.std.proofs.Common.{[], map, take, drop}
 use Rattle.serde_json.specs.View.{view}
-use Rattle.play_rules.specs.Checks.{AllKept}
-use Rattle.play_rules.specs.Known.{known}
-use Rattle.play_rules.specs.Places.{play_path}
-use Rattle.play_rules.specs.Plays.{checks_of_tasks}
-use Rattle.play_rules.specs.Steps.{step_of}
-use Rattle.play_rules.proofs.AddLaws.{Leads}
+use Rattle.playbook_schema.specs.Checks.{AllKept}
+use Rattle.playbook_schema.specs.Known.{known}
+use Rattle.playbook_schema.specs.Places.{play_path}
+use Rattle.playbook_schema.specs.Plays.{checks_of_tasks}
+use Rattle.playbook_schema.specs.Steps.{step_of}
+use Rattle.playbook_schema.proofs.AddLaws.{Leads}
 use Rattle.play_read.specs.Reads.{AreSteps}
 use Rattle.play_read.proofs.tasks.read_tasks.Given as goal
 

@@ -2,7 +2,7 @@ use Rattle.std.proofs.Common.{◌≡◌, ℕ, ◌+◌, nat_lt, List, length, tak
 use Rattle.std.proofs.lemmas.List.{take_all}
 use Rattle.bounded_io.specs.Writing.{Writes}
 use Rattle.bounded_io.proofs.WritingLemmas.{writes_two}
-use Rattle.play_course.specs.declared.boundary.Boundary.{Boundary}
+use Rattle.play_forecast.specs.declared.boundary.Boundary.{Boundary}
 use Rattle.recap.specs.RecapText.{boundary_lines, boundary_text}
 use Rattle.recap.proofs.PlaceLemmas.{text_more}
 use Rattle.recap.proofs.boundaries.write_boundaries.Goals as goal

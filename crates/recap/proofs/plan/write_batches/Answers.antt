@@ -2,7 +2,7 @@ use Rattle.std.proofs.Common.{◌≡◌, ℕ, ◌+◌, List, flat_map, length, s
 use Rattle.std.specs.List.{range_with_len}
 use Rattle.bounded_io.specs.Writing.{Writes}
 use Rattle.bounded_io.proofs.WritingLemmas.{writes_two}
-use Rattle.fleet_numbers.specs.NumberLists.{list_at}
+use Rattle.fleet_index.specs.NumberLists.{list_at}
 use Rattle.recap.specs.PlanText.{batch_line}
 use Rattle.recap.proofs.PlanLemmas.{lines_more}
 use Rattle.recap.proofs.plan.write_batches.Goals as goal

@@ -1,7 +1,7 @@
 use Rattle.std.proofs.Common.{◌+◌, flat_map}
 use Rattle.std.specs.List.{range_with_len}
 use Rattle.bounded_io.specs.Writing.{Writes}
-use Rattle.fleet_numbers.specs.NumberLists.{list_at}
+use Rattle.fleet_index.specs.NumberLists.{list_at}
 use Rattle.recap.specs.PlanText.{batch_line}
 use Rattle.recap.proofs.plan.write_batches.Given as goal
 

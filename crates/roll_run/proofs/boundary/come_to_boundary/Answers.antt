@@ -9,7 +9,7 @@ use Rattle.batch_plan.specs.Places.{AreCountsOf}
 use Rattle.play_model.specs.declared.play.Play.{Play}
 use Rattle.play_model.specs.declared.on_blocked.OnBlocked.{OnBlocked}
 use Rattle.play_model.specs.Sizes.{cap}
-use Rattle.play_course.specs.PlayPlans.{aside_by, targets}
+use Rattle.play_forecast.specs.PlayPlans.{aside_by, targets}
 use Rattle.roll_core.specs.Views.{state_of}
 use Rattle.roll_run.proofs.Coming.{cap_of_few, notes}
 use Rattle.roll_run.proofs.boundary.come_to_boundary.Goals as goal

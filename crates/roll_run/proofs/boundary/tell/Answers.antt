@@ -6,13 +6,13 @@ use Rattle.batch_plan.specs.Places.{told_places}
 use Rattle.roll_run.proofs.Counting.{placed_still, told_next}
 use Rattle.roll_run.proofs.boundary.tell.Goals as goal
 
-pub tell_one-requires : goal.tell_one-requires
-tell_one-requires g c =
+pub record_one-requires : goal.record_one-requires
+record_one-requires g c =
     record { placed = placed_still (take c.loop-place.place (host_numbers c.args.hosts.now)) c.args.statuses.now c.args.domains.now c.loop-place.domains c.requires.placed c.loop-place.invariant }
 
 pub loop-place-preserved : goal.loop-place-preserved
 loop-place-preserved g c =
-    told_next c.args.hosts.now c.loop-place.place _ c.args.statuses.now c.args.domains.now c.loop-place.domains c.tell_one.new.domains c.loop-place-test.true c.loop-place.invariant c.tell_one.ensures
+    told_next c.args.hosts.now c.loop-place.place _ c.args.statuses.now c.args.domains.now c.loop-place.domains c.record_one.new.domains c.loop-place-test.true c.loop-place.invariant c.record_one.ensures
 
 pub returns : goal.returns
 returns g c =

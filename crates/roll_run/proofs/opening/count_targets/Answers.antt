@@ -1,11 +1,11 @@
 use Rattle.std.proofs.Common.{◌≡◌, List, length, ap, ◌∙◌, arith}
 use Rattle.std.specs.List.{list_any}
-use Rattle.text_parts.specs.Patterns.{parts_of}
+use Rattle.text_syntax.specs.Patterns.{parts_of}
 use Rattle.domains.specs.Ids.{host_numbers}
 use Rattle.domains.specs.Patterns.{is_named_by, named_hosts}
 use Rattle.batch_plan.proofs.WhereLemmas.{length-where}
 use Rattle.fleet_states.proofs.HostLemmas.{length-host_numbers}
-use Rattle.play_course.specs.PlayPlans.{parts_of_play, targets}
+use Rattle.play_forecast.specs.PlayPlans.{parts_of_play, targets}
 use Rattle.roll_run.proofs.opening.count_targets.Goals as goal
 
 pub returns-in-Ok : goal.returns-in-Ok

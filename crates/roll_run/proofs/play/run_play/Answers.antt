@@ -20,4 +20,4 @@ returns-in-Some-clause-kept g c =
     let one = the_run may fleet c.args.forks c.args.play.now statuses vars runs are.logs
     (subst (λ (l : List Play). AreRuns may fleet c.args.forks l statuses vars runs are.logs) c.from_ref.ensures.value are.are) in
     let runs_are : runs ≡ run ∷ [] = one.1 ∙ ap (λ (r : Run). r ∷ []) (the_last c.pop.new.self.items run one.0 (sym c.in-Some.ensures.items ∙ one.1)) in
-    subst (λ (l : List Run). Gains c.args.history c.run_plays-ran.result.1 (AreKept g.K.Keep.keeps fleet c.args.keeper c.run_plays-ran.result.2 (map Some (ends_of l)))) runs_are kept
+    subst (λ (l : List Run). Gains c.args.history c.run_plays-ran.result.1 (AreKept g.K.Recorder.keeps fleet c.args.keeper c.run_plays-ran.result.2 (map Some (ends_of l)))) runs_are kept

@@ -3,7 +3,7 @@ use Rattle.std.specs.List.{find}
 use Rattle.domains.specs.Patterns.{names_nothing}
 use Rattle.fleet_states.specs.declared.status.Status.{Status}
 use Rattle.play_model.specs.declared.play.Play.{Play}
-use Rattle.play_course.specs.PlayPlans.{named_parts}
+use Rattle.play_forecast.specs.PlayPlans.{named_parts}
 use Rattle.roll_run.specs.declared.fault.RunFault.{RunFault}
 use Rattle.roll_run.specs.Runs.{roll_by}
 use Rattle.roll_run.specs.Plays.{IsNotBegun, IsRollAfter}
@@ -95,7 +95,7 @@ returns-in-Ok-run-clause-kept g t c =
     let fleet = c.args.setup.now.fleet.now in
     let first = ok_of _ c.run_one-run.result.0 c.in-Ok-run.run' c.in-Ok-run.is c.run_one-run.ensures.kept in
     on_ok c.run_later.result.0
-    (kept_further g.K.Keep.keeps fleet c.args.keeper.now c.run_one-run.new.keeper c.run_later.new.keeper c.args.history c.run_one-run.result.1 c.run_later.result.1 c.in-Ok-run.run' first
+    (kept_further g.K.Recorder.keeps fleet c.args.keeper.now c.run_one-run.new.keeper c.run_later.new.keeper c.args.history c.run_one-run.result.1 c.run_later.result.1 c.in-Ok-run.run' first
     c.args.before c.args.done.now.items c.keep-in-Ok.new.items.items c.run_later.new.done.items c.keep-in-Ok.ensures.items) c.run_later.ensures.kept
 
 pub returns-in-Ok-run-clause-ahead : goal.returns-in-Ok-run-clause-ahead
@@ -103,26 +103,26 @@ returns-in-Ok-run-clause-ahead g t c =
     let fleet = c.args.setup.now.fleet.now in
     let first = ok_of _ c.run_one-run.result.0 c.in-Ok-run.run' c.in-Ok-run.is c.run_one-run.ensures.kept in
     if_err c.run_later.result.0
-    (λ _. kept_ahead_further g.K.Keep.keeps fleet c.args.keeper.now c.run_one-run.new.keeper c.run_later.new.keeper c.args.history c.run_one-run.result.1 c.run_later.result.1 c.in-Ok-run.run' first
+    (λ _. kept_ahead_further g.K.Recorder.keeps fleet c.args.keeper.now c.run_one-run.new.keeper c.run_later.new.keeper c.args.history c.run_one-run.result.1 c.run_later.result.1 c.in-Ok-run.run' first
     c.args.before c.args.done.now.items c.keep-in-Ok.new.items.items c.run_later.new.done.items c.keep-in-Ok.ensures.items) c.run_later.ensures.ahead
 
 pub returns-in-Err-clause-ahead : goal.returns-in-Err-clause-ahead
 returns-in-Err-clause-ahead g t c =
-    broken_after g.K.Keep.keeps c.args.setup.now.fleet.now c.args.keeper.now c.args.keeper.now c.args.history c.args.history c.args.before c.args.done.now.items c.keep-in-Err.new.items.items c.keep-in-Err.ensures.items
-    (none_ahead g.K.Keep.keeps c.args.setup.now.fleet.now c.args.keeper.now c.args.keeper.now c.args.history refl)
+    broken_after g.K.Recorder.keeps c.args.setup.now.fleet.now c.args.keeper.now c.args.keeper.now c.args.history c.args.history c.args.before c.args.done.now.items c.keep-in-Err.new.items.items c.keep-in-Err.ensures.items
+    (none_ahead g.K.Recorder.keeps c.args.setup.now.fleet.now c.args.keeper.now c.args.keeper.now c.args.history refl)
 
 pub returns-in-Err-run-clause-ahead : goal.returns-in-Err-run-clause-ahead
 returns-in-Err-run-clause-ahead g t c =
-    broken_after g.K.Keep.keeps c.args.setup.now.fleet.now c.args.keeper.now c.run_one-run.new.keeper c.args.history c.run_one-run.result.1 c.args.before c.args.done.now.items c.keep-in-Ok.new.items.items c.keep-in-Ok.ensures.items
+    broken_after g.K.Recorder.keeps c.args.setup.now.fleet.now c.args.keeper.now c.run_one-run.new.keeper c.args.history c.run_one-run.result.1 c.args.before c.args.done.now.items c.keep-in-Ok.new.items.items c.keep-in-Ok.ensures.items
     (err_of _ c.run_one-run.result.0 c.in-Err-run.fault c.in-Err-run.is c.run_one-run.ensures.ahead)
 
 pub returns-in_default-clause-kept : goal.returns-in_default-clause-kept
 returns-in_default-clause-kept g t c =
-    none_further g.K.Keep.keeps c.args.setup.now.fleet.now c.args.keeper.now c.args.keeper.now c.args.history c.args.before c.args.done.now.items c.keep.new.items.items c.keep.ensures.items refl
+    none_further g.K.Recorder.keeps c.args.setup.now.fleet.now c.args.keeper.now c.args.keeper.now c.args.history c.args.before c.args.done.now.items c.keep.new.items.items c.keep.ensures.items refl
 
 pub returns-then-not-is_finished-clause-kept : goal.returns-then-not-is_finished-clause-kept
 returns-then-not-is_finished-clause-kept g t c =
-    none_further g.K.Keep.keeps c.args.setup.now.fleet.now c.args.keeper.now c.args.keeper.now c.args.history c.args.before c.args.done.now.items c.keep-then-not-is_finished.new.items.items
+    none_further g.K.Recorder.keeps c.args.setup.now.fleet.now c.args.keeper.now c.args.keeper.now c.args.history c.args.before c.args.done.now.items c.keep-then-not-is_finished.new.items.items
     c.keep-then-not-is_finished.ensures.items refl
 
 pub returns-in-Err-run-clause-err : goal.returns-in-Err-run-clause-err

@@ -2,7 +2,7 @@ use Rattle.std.proofs.Common.{◌≡◌, ◌-◌, None, Option, List, [], ◌∷
 use Rattle.std.specs.List.{find}
 use Rattle.domains.specs.Patterns.{names_nothing}
 use Rattle.play_model.specs.declared.play.Play.{Play}
-use Rattle.play_course.specs.PlayPlans.{named_parts}
+use Rattle.play_forecast.specs.PlayPlans.{named_parts}
 use Rattle.event_log.specs.Events.{Event}
 use Rattle.roll_run.specs.declared.run.Run.{Run}
 use Rattle.roll_run.specs.Histories.{Gains}
@@ -76,22 +76,22 @@ pub returns-in-Ok-ended-clause-kept : goal.returns-in-Ok-ended-clause-kept
 returns-in-Ok-ended-clause-kept g c =
     let first = ok_of _ c.run_one-run.result.0 c.in-Ok-run.run' c.in-Ok-run.is c.run_one-run.ensures.kept in
     let more = done_of c.run_later-ended.result.0 c.in-Ok-ended.field-0 c.in-Ok-ended.is c.run_later-ended.ensures.kept in
-    kept_first g.K.Keep.keeps c.args.setup.now.fleet.now c.args.keeper.now c.run_one-run.new.keeper c.run_later-ended.new.keeper c.args.history c.run_one-run.result.1 c.run_later-ended.result.1 c.in-Ok-run.run' first
+    kept_first g.K.Recorder.keeps c.args.setup.now.fleet.now c.args.keeper.now c.run_one-run.new.keeper c.run_later-ended.new.keeper c.args.history c.run_one-run.result.1 c.run_later-ended.result.1 c.in-Ok-run.run' first
     c.in-Ok.done.items c.run_later-ended.new.done.items c.in-Ok.ensures.done.0 more
 
 pub returns-in-Err-ended-clause-ahead : goal.returns-in-Err-ended-clause-ahead
 returns-in-Err-ended-clause-ahead g c =
     let first = ok_of _ c.run_one-run.result.0 c.in-Ok-run.run' c.in-Ok-run.is c.run_one-run.ensures.kept in
     let more = err_of _ c.run_later-ended.result.0 c.in-Err-ended.last c.in-Err-ended.is c.run_later-ended.ensures.ahead in
-    ahead_first g.K.Keep.keeps c.args.setup.now.fleet.now c.args.keeper.now c.run_one-run.new.keeper c.run_later-ended.new.keeper c.args.history c.run_one-run.result.1 c.run_later-ended.result.1 c.in-Ok-run.run' first
+    ahead_first g.K.Recorder.keeps c.args.setup.now.fleet.now c.args.keeper.now c.run_one-run.new.keeper c.run_later-ended.new.keeper c.args.history c.run_one-run.result.1 c.run_later-ended.result.1 c.in-Ok-run.run' first
     c.in-Ok.done.items c.run_later-ended.new.done.items c.in-Ok.ensures.done.0 more
 
 pub returns-in_default-places-clause-ahead : goal.returns-in_default-places-clause-ahead
 returns-in_default-places-clause-ahead g c =
-    subst (λ (l : List Run). Gains c.args.history c.args.history (AreKeptAhead g.K.Keep.keeps c.args.setup.now.fleet.now c.args.keeper.now c.args.keeper.now (ends_of l))) (sym c.before_a_log.ensures.done)
-    (none_ahead g.K.Keep.keeps c.args.setup.now.fleet.now c.args.keeper.now c.args.keeper.now c.args.history refl)
+    subst (λ (l : List Run). Gains c.args.history c.args.history (AreKeptAhead g.K.Recorder.keeps c.args.setup.now.fleet.now c.args.keeper.now c.args.keeper.now (ends_of l))) (sym c.before_a_log.ensures.done)
+    (none_ahead g.K.Recorder.keeps c.args.setup.now.fleet.now c.args.keeper.now c.args.keeper.now c.args.history refl)
 
 pub returns-in-Err-clause-ahead : goal.returns-in-Err-clause-ahead
 returns-in-Err-clause-ahead g c =
-    subst (λ (l : List Run). Gains c.args.history c.run_one-run.result.1 (AreKeptAhead g.K.Keep.keeps c.args.setup.now.fleet.now c.args.keeper.now c.run_one-run.new.keeper (ends_of l))) (sym c.in-Ok.ensures.done.0)
+    subst (λ (l : List Run). Gains c.args.history c.run_one-run.result.1 (AreKeptAhead g.K.Recorder.keeps c.args.setup.now.fleet.now c.args.keeper.now c.run_one-run.new.keeper (ends_of l))) (sym c.in-Ok.ensures.done.0)
     (err_of _ c.run_one-run.result.0 c.in-Err.last c.in-Err.is c.run_one-run.ensures.ahead)

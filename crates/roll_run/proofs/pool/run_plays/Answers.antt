@@ -13,5 +13,5 @@ returns-in-Err-clause-err g c =
 
 pub returns-in-Err-clause-ahead : goal.returns-in-Err-clause-ahead
 returns-in-Err-clause-ahead g c =
-    subst (λ (l : List Run). Gains c.args.history c.args.history (AreKeptAhead g.K.Keep.keeps c.args.setup.now.fleet.now c.args.keeper c.args.keeper (ends_of l))) (sym c.before_a_log-fault.ensures.done)
-    (none_ahead g.K.Keep.keeps c.args.setup.now.fleet.now c.args.keeper c.args.keeper c.args.history refl)
+    subst (λ (l : List Run). Gains c.args.history c.args.history (AreKeptAhead g.K.Recorder.keeps c.args.setup.now.fleet.now c.args.keeper c.args.keeper (ends_of l))) (sym c.before_a_log-fault.ensures.done)
+    (none_ahead g.K.Recorder.keeps c.args.setup.now.fleet.now c.args.keeper c.args.keeper c.args.history refl)

@@ -13,5 +13,5 @@ returns-then-missing-clause-err g c =
 
 pub returns-then-missing-clause-ahead : goal.returns-then-missing-clause-ahead
 returns-then-missing-clause-ahead g c =
-    subst (λ (l : List Run). Gains c.args.history c.args.history (AreKeptAhead g.K.Keep.keeps c.args.setup.now.fleet.now c.args.keeper.now c.args.keeper.now (ends_of l))) (sym c.before_a_log-fault.ensures.done)
-    (none_ahead g.K.Keep.keeps c.args.setup.now.fleet.now c.args.keeper.now c.args.keeper.now c.args.history refl)
+    subst (λ (l : List Run). Gains c.args.history c.args.history (AreKeptAhead g.K.Recorder.keeps c.args.setup.now.fleet.now c.args.keeper.now c.args.keeper.now (ends_of l))) (sym c.before_a_log-fault.ensures.done)
+    (none_ahead g.K.Recorder.keeps c.args.setup.now.fleet.now c.args.keeper.now c.args.keeper.now c.args.history refl)

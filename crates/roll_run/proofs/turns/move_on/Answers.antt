@@ -1,5 +1,5 @@
 use Rattle.std.proofs.Common.{List, sym, subst}
-use Rattle.play_course.specs.declared.boundary.Boundary.{Boundary}
+use Rattle.play_forecast.specs.declared.boundary.Boundary.{Boundary}
 use Rattle.roll_run.specs.Inside.{IsBroken, IsOnCourse}
 use Rattle.roll_run.specs.declared.fault.Break.TheVariants.{Fault}
 use Rattle.fork_pool.specs.declared.fault.StepFault.TheVariants.{Mem}
@@ -18,4 +18,4 @@ returns-in-Err-clause-turned g c =
 
 pub returns-in-Ok-clause-kept : goal.returns-in-Ok-clause-kept
 returns-in-Ok-clause-kept g c =
-    turn_further g.K.Keep.keeps c.args.board.kernel c.come_to_boundary.new.board.kernel c.pass.result.1.kernel c.args.keeper.now c.come_to_boundary.new.keeper c.pass.new.keeper c.pass.result.0 c.come_to_boundary.ensures.kept c.pass.ensures.kept
+    turn_further g.K.Recorder.keeps c.args.board.kernel c.come_to_boundary.new.board.kernel c.pass.result.1.kernel c.args.keeper.now c.come_to_boundary.new.keeper c.pass.new.keeper c.pass.result.0 c.come_to_boundary.ensures.kept c.pass.ensures.kept

@@ -3,8 +3,8 @@ use Rattle.domains.specs.Ids.{host_numbers}
 use Rattle.batch_plan.specs.Counts.{Counted}
 use Rattle.fleet_states.proofs.HostLemmas.{length-host_numbers}
 use Rattle.batch_plan.specs.Places.{told_places}
-use Rattle.play_course.specs.declared.boundary.Boundary.{Boundary}
-use Rattle.play_course.specs.Courses.{end_here, end_with, next_batch}
+use Rattle.play_forecast.specs.declared.boundary.Boundary.{Boundary}
+use Rattle.play_forecast.specs.Courses.{end_here, end_with, next_batch}
 use Rattle.event_log.specs.States.{failures}
 use Rattle.roll_core.specs.Views.{KernelView, state_of}
 use Rattle.roll_run.specs.Inside.{HasBroken, HasRun, grown}
@@ -58,8 +58,8 @@ returns-in-Ok-clause-kept g c =
     let mid = c.run_batch.new.keeper in
     let after = c.close_batch-end.new.keeper in
     let now = (state_of c.close_batch-end.new.board.kernel).statuses in
-    let kept = subst (λ hosts. g.K.Keep.keeps mid after c.in-Ok.board.kernel.fleet (closing hosts now)) again c.close_batch-end.ensures.kept in
-    keeps_batch g.K.Keep.keeps c.args.board c.in-Ok.board c.close_batch-end.new.board (next_batch noted.boundary.answer) c.args.keeper.now mid after run
+    let kept = subst (λ hosts. g.K.Recorder.keeps mid after c.in-Ok.board.kernel.fleet (closing hosts now)) again c.close_batch-end.ensures.kept in
+    keeps_batch g.K.Recorder.keeps c.args.board c.in-Ok.board c.close_batch-end.new.board (next_batch noted.boundary.answer) c.args.keeper.now mid after run
     c.close_batch-end.ensures.event c.close_batch-end.ensures.legal c.in-Ok.ensures.kept kept
 
 pub returns-in-Ok-clause-same : goal.returns-in-Ok-clause-same

@@ -3,8 +3,8 @@ use Rattle.std.proofs.lemmas.List.{drop-map, take-map}
 use Rattle.group_tree.specs.declared.ids.HostId.{HostId}
 use Rattle.domains.specs.Ids.{host_numbers}
 use Rattle.fleet_states.proofs.HostLemmas.{length-host_numbers}
-use Rattle.fleet_numbers.specs.Runs.{start_at, end_at}
-use Rattle.fleet_numbers.proofs.RunLemmas.{place_kept, run_lent}
+use Rattle.fleet_index.specs.Runs.{start_at, end_at}
+use Rattle.fleet_index.proofs.RunLemmas.{place_kept, run_lent}
 use Rattle.batch_plan.proofs.batches.Batches.at.Goals as goal
 
 pub start_of-requires : goal.start_of-requires

@@ -1,6 +1,6 @@
 use Rattle.std.proofs.Common.{length, ap, arith}
 use Rattle.domains.specs.Ids.{host_numbers}
-use Rattle.fleet_numbers.proofs.RunLemmas.{length-runs}
+use Rattle.fleet_index.proofs.RunLemmas.{length-runs}
 use Rattle.batch_plan.proofs.batches.Batches.len.Goals as goal
 
 pub returns : goal.returns

@@ -3,7 +3,7 @@ use Rattle.std.proofs.lemmas.List.{map-append}
 use Rattle.group_tree.specs.declared.ids.HostId.{HostId}
 use Rattle.domains.specs.Ids.{host_numbers}
 use Rattle.fleet_states.proofs.HostLemmas.{length-host_numbers}
-use Rattle.fleet_numbers.proofs.RunLemmas.{added}
+use Rattle.fleet_index.proofs.RunLemmas.{added}
 use Rattle.batch_plan.proofs.batches.Batches.push.Goals as goal
 
 pub returns-clause-ok : goal.returns-clause-ok

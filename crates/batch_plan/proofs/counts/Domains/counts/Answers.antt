@@ -1,5 +1,5 @@
 use Rattle.std.proofs.Common.{◌≡◌, ℕ, true, List, sym, ap, ◌∙◌, subst}
-use Rattle.fleet_numbers.specs.Chains.{is_limited}
+use Rattle.fleet_index.specs.Chains.{is_limited}
 use Rattle.batch_plan.specs.Nodes.{Subtree, side_by_side, groups_in, RiseFrom}
 use Rattle.batch_plan.specs.Counts.{Counted, waiting_in, down_in, nodes_at}
 use Rattle.batch_plan.proofs.FleetLemmas.{tops_rising}

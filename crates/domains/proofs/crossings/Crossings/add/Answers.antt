@@ -1,6 +1,6 @@
 use Rattle.std.proofs.Common.{ℕ, true, false, append-nil, length, sym, ◌∙◌, arith}
 use Rattle.std.proofs.lemmas.Nat.{mul-add-lt}
-use Rattle.fleet_numbers.specs.Chains.{ends_before}
+use Rattle.fleet_index.specs.Chains.{ends_before}
 use Rattle.domains.proofs.PairLemmas.{seen_more, seen_same}
 use Rattle.domains.proofs.crossings.Crossings.add.Goals as goal
 

@@ -1,6 +1,6 @@
 use Rattle.std.proofs.Common.{◌≡◌, ◌*◌, ◌++◌, List, length, take}
 use Rattle.std.specs.List.{flat_map}
-use Rattle.fleet_numbers.specs.Chains.{ends_before}
+use Rattle.fleet_index.specs.Chains.{ends_before}
 use Rattle.domains.specs.Findings.{crossings_with}
 use Rattle.domains.specs.Ids.{group_numbers}
 use Rattle.domains.specs.Search.{AreSeen}

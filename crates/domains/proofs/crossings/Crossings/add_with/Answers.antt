@@ -1,5 +1,5 @@
 use Rattle.std.proofs.Common.{ℕ, List, append-nil, length, sym, subst}
-use Rattle.fleet_numbers.specs.Chains.{ends_before}
+use Rattle.fleet_index.specs.Chains.{ends_before}
 use Rattle.domains.specs.Findings.{crossing_if}
 use Rattle.domains.specs.Search.{AreSeen}
 use Rattle.domains.specs.declared.finding.Crossing.{Crossing}

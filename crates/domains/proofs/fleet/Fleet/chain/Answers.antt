@@ -1,6 +1,6 @@
 use Rattle.std.proofs.Common.{◌≡◌, ◌∙◌, ℕ, length, sym, ap, subst}
 use Rattle.group_tree.specs.declared.ids.GroupId.{GroupId}
-use Rattle.fleet_numbers.specs.NumberLists.{list_at, has_number}
+use Rattle.fleet_index.specs.NumberLists.{list_at, has_number}
 use Rattle.domains.specs.Ids.{group_numbers}
 use Rattle.domains.specs.FleetViews.{FleetView, IsSound}
 use Rattle.domains.proofs.ReaderLemmas.{lent_within, chain_lent}

@@ -1,7 +1,7 @@
 use Rattle.std.proofs.Common.{rules, ◌∙◌, ℕ, length, ap}
 use Rattle.std.proofs.lemmas.Fn.{always_returns_same}
 use Rattle.group_tree.specs.declared.ids.HostId.{HostId}
-use Rattle.fleet_numbers.specs.NumberLists.{has_number}
+use Rattle.fleet_index.specs.NumberLists.{has_number}
 use Rattle.domains.specs.FleetViews.{FleetView}
 use Rattle.domains.proofs.ReaderLemmas.{found_number, members_lent}
 use Rattle.domains.proofs.fleet.Fleet.is_member.Goals as goal

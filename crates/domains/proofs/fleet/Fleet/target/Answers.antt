@@ -1,6 +1,6 @@
 use Rattle.std.proofs.Common.{false, map, get_or}
 use Rattle.std.specs.List.{list_any}
-use Rattle.text_parts.specs.Patterns.{parts_of}
+use Rattle.text_syntax.specs.Patterns.{parts_of}
 use Rattle.domains.specs.Patterns.{is_named_by}
 use Rattle.domains.proofs.MarkLemmas.{flagged_are}
 use Rattle.domains.proofs.fleet.Fleet.target.Goals as goal

@@ -2,7 +2,7 @@ use Rattle.std.proofs.Common.{◌≡◌, ℕ, List, length, take, sym, ap, ◌�
 use Rattle.std.specs.List.{list_any}
 use Rattle.std.proofs.lemmas.List.{length-map, take_all}
 use Rattle.group_tree.specs.declared.ids.GroupId.{GroupId}
-use Rattle.fleet_numbers.specs.NumberLists.{list_at}
+use Rattle.fleet_index.specs.NumberLists.{list_at}
 use Rattle.domains.specs.Ids.{group_numbers}
 use Rattle.down_ledger.specs.Ledgers.{LedgerView, is_full}
 use Rattle.down_ledger.proofs.LedgerLemmas.{first_full, has_room, none_more}

@@ -1,6 +1,6 @@
 use Rattle.std.proofs.Common.{◌≡◌, ℕ, ◌+◌, ◌<◌, ◌^◌, true, false, cond, All, List, length, get_or, take, drop, ◌++◌, sym, ap, ◌∙◌, subst, arith}
 use Rattle.std.proofs.lemmas.List.{with_items_is}
-use Rattle.fleet_numbers.specs.NumberLists.{has_number, list_at, IsRising}
+use Rattle.fleet_index.specs.NumberLists.{has_number, list_at, IsRising}
 use Rattle.domains.specs.Ids.{group_numbers}
 use Rattle.down_ledger.specs.Ledgers.{LedgerView, HasRoom, is_marked, with_mark}
 use Rattle.down_ledger.specs.Inside.{IsCounted}

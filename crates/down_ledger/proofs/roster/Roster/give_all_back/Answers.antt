@@ -4,7 +4,7 @@ use Rattle.group_tree.specs.declared.ids.HostId.{HostId}
 use Rattle.fleet_states.specs.declared.status.Status.TheVariants.{Waiting}
 use Rattle.domains.specs.Ids.{host_numbers}
 use Rattle.fleet_states.proofs.HostLemmas.{length-host_numbers, number_of_host}
-use Rattle.fleet_numbers.proofs.NumberLemmas.{number_at}
+use Rattle.fleet_index.proofs.NumberLemmas.{number_at}
 use Rattle.down_ledger.specs.Rosters.{HasChanged, seated_at}
 use Rattle.down_ledger.proofs.OpeningLemmas.{seated_within, still_seated}
 use Rattle.down_ledger.proofs.RosterLemmas.{none_changed, stepped}

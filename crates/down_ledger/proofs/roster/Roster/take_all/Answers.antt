@@ -1,7 +1,7 @@
 use Rattle.std.proofs.Common.{◌≡◌, ℕ, ◌<◌, ◌∷◌, [], true, false, List, length, get_or, take, cond, sym, ap, ◌∙◌, subst, refl, arith}
 use Rattle.std.proofs.lemmas.List.{take-map, take_all}
 use Rattle.group_tree.specs.declared.ids.HostId.{HostId}
-use Rattle.fleet_numbers.specs.NumberLists.{has_number}
+use Rattle.fleet_index.specs.NumberLists.{has_number}
 use Rattle.domains.specs.Ids.{host_numbers}
 use Rattle.domains.specs.FleetViews.{FleetView}
 use Rattle.fleet_states.specs.declared.status.Status.{Status}
@@ -9,7 +9,7 @@ use Rattle.fleet_states.specs.declared.status.Status.TheVariants.{Running, Waiti
 use Rattle.fleet_states.specs.Statuses.{are_distinct, are_ready, changed, is_waiting, status_at}
 use Rattle.fleet_states.specs.Groups.{IsSafe, groups_of}
 use Rattle.fleet_states.proofs.HostLemmas.{length-host_numbers, number_of_host}
-use Rattle.fleet_numbers.proofs.NumberLemmas.{number_at}
+use Rattle.fleet_index.proofs.NumberLemmas.{number_at}
 use Rattle.fleet_states.proofs.ReadyLemmas.{ready_waits}
 use Rattle.fleet_states.proofs.StatusLemmas.{length-changed, waiting_within}
 use Rattle.down_ledger.specs.Rosters.{HasChanged, RosterView, seated_at}

@@ -3,7 +3,7 @@ use Rattle.std.specs.List.{list_all}
 use Rattle.std.proofs.lemmas.List.{take_all}
 use Rattle.group_tree.specs.declared.ids.HostId.{HostId}
 use Rattle.domains.specs.Ids.{host_numbers}
-use Rattle.fleet_states.specs.Groups.{groups_of, is_stuck}
+use Rattle.fleet_states.specs.Groups.{groups_of, lacks_room}
 use Rattle.fleet_states.proofs.HostLemmas.{length-host_numbers}
 use Rattle.fleet_states.proofs.StatusLemmas.{waiting_within}
 use Rattle.down_ledger.proofs.HoldingLemmas.{first_with_room, room_where_fits, stuck_more, stuck_where_full, waits_here}
@@ -32,6 +32,6 @@ loop-place-preserved c =
 pub returns : goal.returns
 returns c =
     let numbers : List ℕ = host_numbers c.args.hosts.now in
-    let stuck : List ℕ → Type 0 = λ l. list_all (is_stuck (groups_of c.args.self.now.fleet) c.args.self.now.statuses) l ≡ true in
+    let stuck : List ℕ → Type 0 = λ l. list_all (lacks_room (groups_of c.args.self.now.fleet) c.args.self.now.statuses) l ≡ true in
     let all : take c.loop-place.place numbers ≡ numbers = take_all c.loop-place.place numbers (omega (arith, length-host_numbers c.args.hosts.now)) in
     subst stuck all c.loop-place.invariant

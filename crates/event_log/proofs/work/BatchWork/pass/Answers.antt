@@ -35,11 +35,11 @@ returns-in-Working c =
     let old = c.args.self.now in
     let step = c.args.step in
     let later = c.in-Working.later in
-    let turns = with_items_is old.turns c.line_up-self.new.turns (omega (arith, c.line_up-self.ensures.all, c.as_mut_slice-in-Working.ensures.len)) in
-    let line = with_items_is old.line c.line_up-self.new.line (omega (arith, c.line_up-self.ensures.places, c.as_mut_slice.ensures.len)) in
-    let lined = lined_moved old.play.now later _ old.summaries.items _ old.batch.items _ old.turns.items _ _ _ _ c.line_up-self.result
+    let turns = with_items_is old.turns c.enqueue_due-self.new.turns (omega (arith, c.enqueue_due-self.ensures.all, c.as_mut_slice-in-Working.ensures.len)) in
+    let line = with_items_is old.line c.enqueue_due-self.new.line (omega (arith, c.enqueue_due-self.ensures.places, c.as_mut_slice.ensures.len)) in
+    let lined = lined_moved old.play.now later _ old.summaries.items _ old.batch.items _ old.turns.items _ _ _ _ c.enqueue_due-self.result
     c.as_slice-in-Working.ensures.value c.as_slice-in-Working-2.ensures.value c.as_mut_slice-in-Working.ensures.value (sym turns) (sym line)
-    c.line_up-self.ensures.due in
+    c.enqueue_due-self.ensures.due in
     λ roll state work may nobody fresh.
     let counted = c.failures_in-failures.ensures.count ∙ ap (λ (l : List Summary). count_by (λ (host : HostId). failed_at l host.index) c.as_slice-2.result.now) c.as_slice.ensures.value in
     let failed = failures_alike roll state old work c.as_slice-2.result.now c.failures_in-failures.result c.as_slice-2.ensures.value counted in

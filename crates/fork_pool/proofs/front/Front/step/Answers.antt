@@ -3,4 +3,4 @@ use Rattle.fork_pool.proofs.front.Front.step.Goals as goal
 
 pub returns-clause-continues : goal.returns-clause-continues
 returns-clause-continues g c =
-    goes_further _ _ _ (goes_further _ _ _ (after_split _ _ _ c.begin-step.ensures.board) c.go_on.ensures.board) c.end.ensures.continues
+    goes_further _ _ _ (goes_further _ _ _ (after_split _ _ _ c.begin-step.ensures.board) c.resume.ensures.board) c.end.ensures.continues

@@ -1,6 +1,6 @@
 use Rattle.std.proofs.Common.{sym, ◌∙◌}
 use Rattle.std.proofs.lemmas.Result.{on_ok_weaker}
-use Rattle.text_parts.proofs.Tellings.{told_where, left_where}
+use Rattle.text_syntax.proofs.Tellings.{told_where, left_where}
 use Rattle.inventory_read.proofs.collector.FaultCollector.add.Goals as goal
 
 pub returns-then-not-has_room : goal.returns-then-not-has_room

@@ -1,8 +1,8 @@
 use Rattle.std.proofs.Common.{rules, ◌<◌, ◌-◌, ℕ, List, length, take, drop, sym, ap, ◌∙◌, subst, arith}
 use Rattle.std.specs.Str.{IsCharBoundary}
 use Rattle.std.specs.String.{string_bytes}
-use Rattle.fleet_numbers.specs.Runs.{start_at, end_at}
-use Rattle.fleet_numbers.proofs.RunLemmas.{place_kept, run_lent}
+use Rattle.fleet_index.specs.Runs.{start_at, end_at}
+use Rattle.fleet_index.proofs.RunLemmas.{place_kept, run_lent}
 use Rattle.play_model.proofs.words.Words.at.Goals as goal
 
 pub start_of-start-requires : goal.start_of-start-requires

@@ -1,6 +1,6 @@
 use Rattle.std.proofs.Common.{length, ap, arith}
 use Rattle.std.specs.String.{string_bytes}
-use Rattle.fleet_numbers.proofs.RunLemmas.{length-runs}
+use Rattle.fleet_index.proofs.RunLemmas.{length-runs}
 use Rattle.play_model.proofs.words.Words.len.Goals as goal
 
 pub returns : goal.returns

@@ -22,10 +22,10 @@ pub invariant_of-self-2 : goal.invariant_of-self-2
 invariant_of-self-2 g c =
     let out : IsHandedOut c.self.inside.kernel c.claim.new.self c.in-Some.handed = subst (λ (o : Option Handed). IsClaim c.self.inside.kernel c.claim.new.self o) c.in-Some.is c.in_ok-handed.ensures.ok in
     let kept = kept_quiet (g.R.Runner.may c.self.inside.runner.now) c.self.inside.kernel c.self.inside.tallies c.self.inside.reports.total g.L.Ledger.parts c.self.inside.rest.parts c.self.inside.rest.amount c.self.inside.joined c.self.invariant.0 (claimed out.host out.step) tt refl in
-    let hears = g.W.Watch.hears in
+    let hears = g.W.Observer.hears in
     let before = c.self.inside.watch in
-    let now = c.tell_begin.new.watch in
-    let heard = subst (λ (k : KernelView). HasHeard (Hears hears k) before now (begun_by c.in-Some.handed)) out.grown c.tell_begin.ensures in
+    let now = c.report_begin.new.watch in
+    let heard = subst (λ (k : KernelView). HasHeard (Hears hears k) before now (begun_by c.in-Some.handed)) out.grown c.report_begin.ensures in
     let as_told = subst (HasHeard (Hears hears c.self.inside.kernel) before now) (claim_told c.self.inside.kernel c.claim.new.self c.in-Some.handed out) heard in
     let told = told_more hears c.self.inside.kernel before now c.self.invariant.1 (claimed out.host out.step) as_told in
     let may = g.R.Runner.may c.self.inside.runner.now in

@@ -12,7 +12,7 @@ pub invariant_of-self : goal.invariant_of-self
 invariant_of-self g c =
     let old = c.self.inside in
     let may = g.R.Runner.may old.runner.now in
-    let hears = g.W.Watch.hears in
+    let hears = g.W.Observer.hears in
     let now = c.tell.new.watch in
     let hosts = host_numbers c.args.hosts.now in
     let grown = c.in-Ok.ensures.ok in

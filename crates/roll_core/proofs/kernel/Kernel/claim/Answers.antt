@@ -2,7 +2,7 @@ use Rattle.std.proofs.Common.{◌++◌, ◌∷◌, [], Option, List, sym, ap, �
 use Rattle.host_track.specs.Asking.{Request}
 use Rattle.down_ledger.specs.Rosters.{RosterView}
 use Rattle.event_log.specs.Events.{claimed}
-use Rattle.event_log.specs.declared.taken.Taken.{Taken}
+use Rattle.event_log.specs.declared.assignment.Assignment.{Assignment}
 use Rattle.event_log.specs.Works.{IsClaim, IsTaken}
 use Rattle.roll_core.specs.declared.event.Event.{Event}
 use Rattle.roll_core.specs.declared.event.Event.TheVariants.{Claim}
@@ -25,7 +25,7 @@ invariant_of-self-2 c =
     let kept = c.self.invariant in
     let taken = c.in-Some.taken in
     let takes : IsTaken (roll_of kernel) (state_of kernel) c.claim.new.self taken =
-    subst (λ (o : Option Taken). IsClaim (roll_of kernel) (state_of kernel) c.claim.new.self o) c.in-Some.is
+    subst (λ (o : Option Assignment). IsClaim (roll_of kernel) (state_of kernel) c.claim.new.self o) c.in-Some.is
     (c.in_ok-taken.ensures.ok (roll_of kernel) (state_of kernel) kept.held.works refl) in
     let owes = owed_claimed (roll_of kernel) (state_of kernel) taken.host.index taken.step in
     let owed = c.owed-owed.ensures ∙ ap (λ (v : KernelView). owed_by (roll_of v) (state_of v)) (sym c.self.view_is) in
@@ -48,7 +48,7 @@ returns-clause-ok c =
     let kept = c.self.invariant in
     let taken = c.in-Some.taken in
     let takes : IsTaken (roll_of kernel) (state_of kernel) c.claim.new.self taken =
-    subst (λ (o : Option Taken). IsClaim (roll_of kernel) (state_of kernel) c.claim.new.self o) c.in-Some.is
+    subst (λ (o : Option Assignment). IsClaim (roll_of kernel) (state_of kernel) c.claim.new.self o) c.in-Some.is
     (c.in_ok-taken.ensures.ok (roll_of kernel) (state_of kernel) kept.held.works refl) in
     let at = stage_at work.stage taken.step (kept.held.works.phase ∙ takes.may.at) in
     let task = task_at (roll_of kernel) (state_of kernel) work kept.held.works taken.step at in

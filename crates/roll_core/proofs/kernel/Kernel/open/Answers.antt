@@ -1,6 +1,6 @@
 use Rattle.std.proofs.Common.{◌≡◌, ℕ, true, ◌++◌, ◌∷◌, [], List, length, sym, ap, ◌∙◌, subst, arith}
 use Rattle.group_tree.specs.declared.ids.HostId.{HostId}
-use Rattle.fleet_numbers.specs.NumberLists.{are_below}
+use Rattle.fleet_index.specs.NumberLists.{are_below}
 use Rattle.domains.specs.Ids.{host_numbers}
 use Rattle.fleet_states.proofs.ReadyLemmas.{ready_below}
 use Rattle.event_log.specs.Events.{opened}

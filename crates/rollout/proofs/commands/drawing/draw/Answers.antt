@@ -1,5 +1,5 @@
 use Rattle.std.proofs.Common.{◌<◌, length, subst, sym}
-use Rattle.planning.proofs.PlayLemmas.{has_play}
+use Rattle.plan_command.proofs.PlayLemmas.{has_play}
 use Rattle.rollout.proofs.commands.drawing.draw.Goals as goal
 
 pub foresee-requires : goal.foresee-requires

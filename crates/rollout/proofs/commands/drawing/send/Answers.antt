@@ -1,7 +1,7 @@
 use Rattle.std.proofs.Common.{ℕ, Option, List, rules, subst}
 use Rattle.bounded_io.specs.Sending.{SendsText}
-use Rattle.course_picture.specs.PictureText.{picture_text}
-use Rattle.course_picture.specs.Views.{picture_view}
+use Rattle.forecast_svg.specs.PictureText.{picture_text}
+use Rattle.forecast_svg.specs.Views.{picture_view}
 use Rattle.rollout.proofs.commands.drawing.send.Goals as goal
 
 pub returns : goal.returns

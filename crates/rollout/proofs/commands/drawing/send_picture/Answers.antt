@@ -1,6 +1,6 @@
 use Rattle.std.proofs.Common.{subst}
 use Rattle.bounded_io.specs.Sending.{SendsText}
-use Rattle.course_picture.specs.PictureText.{PictureView, picture_text}
+use Rattle.forecast_svg.specs.PictureText.{PictureView, picture_text}
 use Rattle.rollout.proofs.commands.drawing.send_picture.Goals as goal
 
 pub returns : goal.returns

@@ -1,6 +1,6 @@
-use Rattle.running.specs.Beginnings.{IsTrueFaultFrom, WritesFrom}
-use Rattle.running.specs.Beginnings.{plays_from}
-use Rattle.running.specs.Keepings.{KeepsAheadFrom, KeepsFrom}
+use Rattle.run_command.specs.Beginnings.{IsTrueFaultFrom, WritesFrom}
+use Rattle.run_command.specs.Beginnings.{plays_from}
+use Rattle.run_command.specs.Keepings.{KeepsAheadFrom, KeepsFrom}
 use Rattle.rollout.proofs.Journals.{kept_to}
 use Rattle.rollout.proofs.Rolling.{ended_so, told_err, told_ok, told_stops}
 use Rattle.rollout.proofs.commands.resume.run_rest.Goals as goal
@@ -29,12 +29,12 @@ pub returns-clause-stops : goal.returns-clause-stops
 returns-clause-stops g c same =
     let ran = c.run_from-ran.result.0 in
     let so = ended_so ran c.is_whole.result c.ended.result c.ended.ensures.ok c.ended.ensures.err in
-    told_stops (g.A.Attend.asks c.args.coordinator.now.attend.now) g.K.Keep.refuses ran c.is_whole.result c.ended.result so c.run_from-ran.ensures.asked same
+    told_stops (g.A.StopControl.asks c.args.coordinator.now.attend.now) g.K.Recorder.refuses ran c.is_whole.result c.ended.result so c.run_from-ran.ensures.asked same
 
 pub returns-clause-kept : goal.returns-clause-kept
 returns-clause-kept g c =
     let ran = c.run_from-ran.result.0 in
     let plays = plays_from c.args.beginning c.args.plays.now in
     let so = ended_so ran c.is_whole.result c.ended.result c.ended.ensures.ok c.ended.ensures.err in
-    kept_to (KeepsFrom g.K.Keep.keeps c.args.fleet.now plays) (KeepsAheadFrom g.K.Keep.keeps c.args.fleet.now plays) g.K.Holds.is_whole_now c.args.keeper c.run_from-ran.result.2
+    kept_to (KeepsFrom g.K.Recorder.keeps c.args.fleet.now plays) (KeepsAheadFrom g.K.Recorder.keeps c.args.fleet.now plays) g.K.IsComplete.is_whole_now c.args.keeper c.run_from-ran.result.2
     ran c.is_whole.result c.ended.result c.args.history c.run_from-ran.result.1 so c.is_whole.ensures c.run_from-ran.ensures.kept c.run_from-ran.ensures.ahead

@@ -1,5 +1,5 @@
-use Rattle.running.specs.RunTexts.{IsTrueFault}
-use Rattle.running.specs.Keepings.{KeepsBroken, KeepsRuns}
+use Rattle.run_command.specs.RunTexts.{IsTrueFault}
+use Rattle.run_command.specs.Keepings.{KeepsBroken, KeepsRuns}
 use Rattle.rollout.proofs.Journals.{kept_to}
 use Rattle.rollout.proofs.Rolling.{ended_so, told_err, told_ok, told_stops}
 use Rattle.rollout.proofs.commands.run.roll_with.Goals as goal
@@ -23,11 +23,11 @@ pub returns-clause-stops : goal.returns-clause-stops
 returns-clause-stops g c same =
     let ran = c.run_text-ran.result.0 in
     let so = ended_so ran c.is_whole.result c.ended.result c.ended.ensures.ok c.ended.ensures.err in
-    told_stops (g.A.Attend.asks c.args.coordinator.now.attend.now) g.K.Keep.refuses ran c.is_whole.result c.ended.result so c.run_text-ran.ensures.asked same
+    told_stops (g.A.StopControl.asks c.args.coordinator.now.attend.now) g.K.Recorder.refuses ran c.is_whole.result c.ended.result so c.run_text-ran.ensures.asked same
 
 pub returns-clause-kept : goal.returns-clause-kept
 returns-clause-kept g c =
     let ran = c.run_text-ran.result.0 in
     let so = ended_so ran c.is_whole.result c.ended.result c.ended.ensures.ok c.ended.ensures.err in
-    kept_to (KeepsRuns g.K.Keep.keeps c.args.inventory.now c.args.playbook.now) (KeepsBroken g.K.Keep.keeps c.args.inventory.now c.args.playbook.now) g.K.Holds.is_whole_now c.args.keeper c.run_text-ran.result.2
+    kept_to (KeepsRuns g.K.Recorder.keeps c.args.inventory.now c.args.playbook.now) (KeepsBroken g.K.Recorder.keeps c.args.inventory.now c.args.playbook.now) g.K.IsComplete.is_whole_now c.args.keeper c.run_text-ran.result.2
     ran c.is_whole.result c.ended.result c.args.history c.run_text-ran.result.1 so c.is_whole.ensures c.run_text-ran.ensures.kept c.run_text-ran.ensures.ahead

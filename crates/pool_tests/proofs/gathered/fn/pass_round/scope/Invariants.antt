@@ -1,6 +1,6 @@
 use Rattle.std.proofs.Common.{◌≡◌, ◌+◌, All, vec_len}
 use Rattle.std.specs.Vec.Iter.{into_iter_items, into_iter_len}
-use Rattle.ticket_line.specs.Ends.{line_of}
+use Rattle.ticket_channel.specs.Ends.{line_of}
 use Rattle.pool_tests.proofs.gathered.fn.pass_round.scope.Given as goal
 
 abbrev pub invariant-loop-end : goal.invariant-loop-end

@@ -1,7 +1,0 @@
-use Rattle.std.proofs.Common.{◌≡◌, map}
-use Rattle.std.specs.List.{range_with_len}
-use Rattle.aftermath.specs.Fulls.{is_full}
-use Rattle.aftermath.proofs.full.list_full.Given as goal
-
-abbrev pub invariant-loop-index : goal.invariant-loop-index
-invariant-loop-index l = l.full.items ≡ map (is_full l.fleet l.statuses) (range_with_len 0 l.index)

@@ -1,9 +1,0 @@
-use Rattle.std.proofs.Common.{◌≡◌, ℕ, ◌<◌, None, length, map, take}
-use Rattle.std.specs.List.{last_or}
-use Rattle.aftermath.specs.Rows.{rows_in, seen_at, shown}
-use Rattle.aftermath.proofs.rows.last_rows.Given as goal
-
-abbrev pub invariant-loop-place : goal.invariant-loop-place
-invariant-loop-place l =
-    (length l.last.items ≡ l.hosts)
-    × ((host : ℕ) → host < l.hosts → seen_at l.last.items host ≡ last_or None (rows_in 1 host (take l.place (map shown l.played))))

@@ -1,8 +1,0 @@
-use Rattle.std.proofs.Common.{◌≡◌}
-use Rattle.domains.specs.Ids.{group_numbers}
-use Rattle.fleet_numbers.specs.Chains.{is_limited}
-use Rattle.fleet_numbers.specs.NumberLists.{numbers_where}
-use Rattle.course_picture.proofs.groups.list_limited.Given as goal
-
-abbrev pub invariant-loop-index : goal.invariant-loop-index
-invariant-loop-index l = group_numbers l.groups.items ≡ numbers_where (is_limited l.fleet.limits) l.index

@@ -1,6 +1,0 @@
-use Rattle.std.specs.Str.{chars}
-use Rattle.course_picture.proofs.EscapeLemmas.{name_ends}
-use Rattle.course_picture.proofs.laws.no_name_ends_its_text.Goals as goal
-
-pub returns : goal.returns
-returns c = λ name. name_ends (chars name)

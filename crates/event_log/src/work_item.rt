@@ -1,0 +1,30 @@
+//! What a worker is given for a host.
+ghost use Rattle.std.specs.Prelude.{◌≡◌, IfOk};
+ghost use Rattle.host_track.specs.Asking.{asked_as};
+ghost use Rattle.event_log.specs.Requests.{HasRow, request_of};
+
+use host_track::{Outcome, StepRequest};
+use play_model::Registered;
+use std::alloc::{AllocError, Global};
+
+#[derive(Debug, Drop)]
+pub enum WorkItem {
+    /// The program and its arguments.
+    Job { words: Vec<String> },
+    /// No program is to run: the step ends so. `row` is the outcome's.
+    Settled { outcome: Outcome, row: Registered },
+}
+
+/// What is asked, with its row where it is settled. It fails for want of memory alone.
+pub(crate) fn given_of(alloc: Global, asked: StepRequest) -> Result<WorkItem, AllocError>
+    ensures same { IfOk result (λ given. request_of given ≡ asked_as asked) }
+    ensures row { IfOk result HasRow }
+{
+    match asked {
+        StepRequest::Job { words } => Ok(WorkItem::Job { words }),
+        StepRequest::Settled(outcome) => {
+            let row = outcome.row(alloc)?;
+            Ok(WorkItem::Settled { outcome, row })
+        }
+    }
+}

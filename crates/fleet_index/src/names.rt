@@ -1,0 +1,40 @@
+//! Names in the order of their bytes.
+ghost use Rattle.std.specs.Prelude.{◌≡◌, ◌<◌, length, map, IsFalse, MatchOption, OnOk, OnErr, slice_index_or, []};
+ghost use Rattle.std.specs.String.{string_bytes};
+ghost use Rattle.std.specs.List.Sorted.{IsStrictlySortedBy};
+ghost use Rattle.group_tree.specs.Names.{is_among};
+ghost use Rattle.fleet_index.specs.SortedNames.{name_cmp, sorted_names};
+
+use std::alloc::AllocError;
+
+/// Puts the names in the order of their bytes, each once. Names that come in a few sorted runs, as groups list them, are
+/// merged.
+pub fn make_distinct(names: &mut Vec<&str>) -> Result<(), AllocError>
+    ensures ok { OnOk result (map (λ name. name.now) names.new.items ≡ sorted_names (map (λ name. name.now) names.old.items)) }
+    ensures err { OnErr result (names.new.items ≡ names.old.items) }
+{
+    names.sort()?;
+    names.dedup();
+    Ok(())
+}
+
+/// The place of a name among names in the order of their bytes.
+pub fn find_name(names: &[String], name: &str) -> Option<usize>
+    requires { IsStrictlySortedBy name_cmp (map string_bytes names.now) }
+    ensures { MatchOption result (IsFalse (is_among name.now (map string_bytes names.now)))
+        (λ place. (place < length names.now) × (slice_index_or (map string_bytes names.now) place [] ≡ name.now)) }
+{
+    names.binary_search_by(|own| own.as_str().cmp(name)).ok()
+}
+
+/// The place of a name as `find_name` gives it, where it is likely to stand at `near`.
+pub fn find_name_near(names: &[String], near: usize, name: &str) -> Option<usize>
+    requires { IsStrictlySortedBy name_cmp (map string_bytes names.now) }
+    ensures { MatchOption result (IsFalse (is_among name.now (map string_bytes names.now)))
+        (λ place. (place < length names.now) × (slice_index_or (map string_bytes names.now) place [] ≡ name.now)) }
+{
+    match names.get(near) {
+        Some(own) if own.as_str() == name => Some(near),
+        _ => find_name(names, name),
+    }
+}

@@ -1,6 +1,0 @@
-use Rattle.std.proofs.Common.{◌≡◌, ◌++◌, take}
-use Rattle.fleet_notes.specs.HostKeys.{own_notes}
-use Rattle.fleet_notes.proofs.host_keys.note_own.Given as goal
-
-abbrev pub invariant-loop-variable : goal.invariant-loop-variable
-invariant-loop-variable g l = l.notes ≡ l.initial.notes ++ own_notes l.group l.host (take l.variable-index l.variables)

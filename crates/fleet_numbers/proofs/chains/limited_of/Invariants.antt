@@ -1,7 +1,0 @@
-use Rattle.std.proofs.Common.{◌≡◌, take, filter}
-use Rattle.fleet_numbers.specs.Ids.{group_numbers}
-use Rattle.fleet_numbers.specs.Chains.{is_limited}
-use Rattle.fleet_numbers.proofs.chains.limited_of.Given as goal
-
-abbrev pub invariant-loop-index : goal.invariant-loop-index
-invariant-loop-index l = group_numbers l.limited.items ≡ filter (is_limited l.limits) (take l.index l.groups)

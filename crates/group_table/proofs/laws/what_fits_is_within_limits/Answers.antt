@@ -1,5 +1,0 @@
-use Rattle.group_table.proofs.CellLemmas.{what_fits_is_within_limits}
-use Rattle.group_table.proofs.laws.what_fits_is_within_limits.Goals as goal
-
-pub returns : goal.returns
-returns c = what_fits_is_within_limits

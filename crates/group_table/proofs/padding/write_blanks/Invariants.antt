@@ -1,6 +1,0 @@
-use Rattle.bounded_io.specs.Writing.{Writes}
-use Rattle.group_table.specs.TableText.{blanks}
-use Rattle.group_table.proofs.padding.write_blanks.Given as goal
-
-abbrev pub invariant-loop-blank : goal.invariant-loop-blank
-invariant-loop-blank g l = Writes g.W.Write.contents l.initial.text l.text (blanks l._blank)

@@ -1,0 +1,12 @@
+use Rattle.std.proofs.Common.{ℕ, Option, List, rules, subst}
+use Rattle.bounded_io.specs.Sending.{SendsText}
+use Rattle.json_output.specs.LimitsJson.{fleet_json}
+use Rattle.json_output.proofs.limits.write_limits_json.Goals as goal
+
+pub returns : goal.returns
+returns g c =
+    let text : List ℕ = fleet_json c.args.fleet.now in
+    let told = c.finish.ensures.finishes _ c.new-text.result text c.new-text.ensures c.write_object.ensures in
+    let same = c.write_object.ensures.same_reference in
+    let Is : Option (List ℕ) → Type 0 = λ (new : Option (List ℕ)). SendsText (g.W.Write.contents c.args.out.now) new text c.finish.result in
+    subst Is (search (rules, same)) told

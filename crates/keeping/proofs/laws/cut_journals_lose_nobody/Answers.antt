@@ -1,5 +1,0 @@
-use Rattle.keeping.proofs.LossLemmas.{cut_journals_lose_nobody}
-use Rattle.keeping.proofs.laws.cut_journals_lose_nobody.Goals as goal
-
-pub returns : goal.returns
-returns c = cut_journals_lose_nobody

@@ -1,5 +1,0 @@
-use Rattle.keeping.proofs.ResumeLemmas.{resumes_count_who_is_down}
-use Rattle.keeping.proofs.laws.resumes_count_who_is_down.Goals as goal
-
-pub returns : goal.returns
-returns c = resumes_count_who_is_down

@@ -1,5 +1,0 @@
-use Rattle.keeping.proofs.RunLemmas.{runs_are_said_truly}
-use Rattle.keeping.proofs.laws.runs_are_said_truly.Goals as goal
-
-pub returns : goal.returns
-returns c = runs_are_said_truly

@@ -1,5 +1,0 @@
-use Rattle.keeping.proofs.ResumeLemmas.{updated_hosts_stay}
-use Rattle.keeping.proofs.laws.updated_hosts_stay.Goals as goal
-
-pub returns : goal.returns
-returns c = updated_hosts_stay

@@ -1,5 +1,0 @@
-use Rattle.lint_notes.proofs.BatchLemmas.{AreSmallestSoFar}
-use Rattle.lint_notes.proofs.batches.list_smallest.Given as goal
-
-abbrev pub invariant-loop-play : goal.invariant-loop-play
-invariant-loop-play l = AreSmallestSoFar l.fleet l.plays l.sizes.items l.play-index

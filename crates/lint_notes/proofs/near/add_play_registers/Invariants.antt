@@ -1,7 +1,0 @@
-use Rattle.std.proofs.Common.{◌≡◌, ◌++◌, take}
-use Rattle.step_notes.specs.Inside.{names_of}
-use Rattle.lint_notes.specs.Near.{play_registers}
-use Rattle.lint_notes.proofs.near.add_play_registers.Given as goal
-
-abbrev pub invariant-loop-play : goal.invariant-loop-play
-invariant-loop-play l = names_of l.names.items ≡ names_of l.initial.names.items ++ play_registers (take l.play-index l.plays)

@@ -1,0 +1,41 @@
+-- What it takes to start the program of a job, and how one that was started may end.
+use Rattle.std.specs.Prelude.{◌≡◌, ℕ, ℤ, List, ◌∷◌, false, None}
+use Rattle.std.specs.Process.{clears_env, command_args, command_dir, command_program, command_var}
+use Rattle.std.specs.declared.process.command.Command.{Command}
+use Rattle.std.specs.declared.process.status.ExitStatus.{ExitStatus}
+use Rattle.host_track.specs.Endings.{Ending, ran, not_started, lost, skipped, undefined}
+use Rattle.local_runner.specs.Ends.{IsLocalEnd, code_of}
+use Rattle.local_runner.specs.declared.launch.Pending.{Pending}
+use Rattle.local_runner.specs.declared.starting.Started.{Started}
+use Rattle.local_runner.specs.declared.starting.Started.TheVariants.{Running, Refused}
+
+-- a command of these words, which changes neither the folder nor the environment
+pub record IsHere {A : Type 0} (command : Command A) (words : List (List ℕ)) : Type 0 where
+  pub words_are : words ≡ command_program command ∷ command_args command
+  pub folder : command_dir command ≡ None
+  pub inherits : clears_env command ≡ false
+  pub vars : (name : List ℕ) → command_var command name ≡ None
+
+-- it holds of what stands for the program that was started; of a refusal nothing is said
+abbrev pub IfRunning : Started → (Pending → Type 0) → Type 0
+IfRunning (Running child pending) holds = holds pending
+IfRunning (Refused error) holds = Unit {0}
+
+-- a program of these words ended with a status of this code
+pub record HasCode (has_ended : List (List ℕ) → ExitStatus → Type 0) (words : List (List ℕ)) (rc : ℤ) : Type 0 where
+  pub status : ExitStatus
+  pub ended : has_ended words status
+  pub code : rc ≡ code_of status
+
+-- who is told as run ended so, and of whom nothing is known was started, with these words
+abbrev pub IsOfStarted : (List (List ℕ) → Type 0) → (List (List ℕ) → ExitStatus → Type 0) → List (List ℕ) → Ending → Type 0
+IsOfStarted is_started has_ended words (ran rc stdout stderr) = HasCode has_ended words rc
+IsOfStarted is_started has_ended words lost = is_started words
+IsOfStarted is_started has_ended words not_started = Unit {0}
+IsOfStarted is_started has_ended words skipped = ⊥
+IsOfStarted is_started has_ended words (undefined name) = ⊥
+
+-- how a program of this machine may end: as one does here, and as one that was started with these words
+pub record MayEndHere (is_started : List (List ℕ) → Type 0) (has_ended : List (List ℕ) → ExitStatus → Type 0) (words : List (List ℕ)) (ending : Ending) : Type 0 where
+  pub local : IsLocalEnd ending
+  pub started : IsOfStarted is_started has_ended words ending

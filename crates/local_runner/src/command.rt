@@ -1,0 +1,24 @@
+//! Words as a command.
+ghost use Rattle.std.specs.Prelude.{IfOk, IfSome, map, string_bytes};
+ghost use Rattle.local_runner.specs.Starts.{IsHere};
+
+use std::alloc::{AllocError, Global};
+use std::process::{Command, Stdio};
+
+/// The first word with the others as its arguments, in this program's folder and environment, with nothing to read and both outputs to this
+/// program; none where there is no word.
+pub(crate) fn command_of(alloc: Global, words: &[String]) -> Result<Option<Command>, AllocError>
+    ensures { IfOk result (λ made. IfSome made (λ command. IsHere command (map string_bytes words.now))) }
+{
+    let Some((program, arguments)) = words.split_first() else {
+        return Ok(None);
+    };
+    let mut command = Command::new(alloc, program.as_str())?;
+    for argument in arguments {
+        command.arg(argument.as_str())?;
+    }
+    command.stdin(Stdio::null());
+    command.stdout(Stdio::piped());
+    command.stderr(Stdio::piped());
+    Ok(Some(command))
+}

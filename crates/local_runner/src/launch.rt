@@ -1,0 +1,78 @@
+//! Who starts programs.
+ghost use Rattle.std.specs.Prelude.{ℕ, List, IfOk};
+ghost use Rattle.std.specs.declared.process.status.ExitStatus.{ExitStatus};
+ghost use Rattle.local_runner.specs.Starts.{IsHere};
+ghost use Rattle.local_runner.specs.declared.launch.Pending.{Pending};
+
+use roll_core::Go;
+use std::io;
+use std::process::{Child, Command, ExitStatus, Processes, SystemProcess};
+
+/// Stands for a program that was started and that nobody has waited for, by its number.
+#[derive(Debug, Drop)]
+pub struct Pending {
+    id: u32,
+}
+
+impl Pending {
+    pub fn of(child: &Child) -> Pending {
+        Pending { id: child.id() }
+    }
+}
+
+/// Starts programs, and waits for them. With which words one was started, and how one of these words ended, are its relations: nothing else
+/// establishes them.
+pub trait Launch {
+    /// A program was started with these words, in the folder and environment of this program.
+    ghost is_started: { List (List ℕ) → Type 0 };
+
+    /// It stands for one that was started with these words.
+    ghost is_pending: { Pending → List (List ℕ) → Type 0 };
+
+    /// A program that was started with these words ended so.
+    ghost has_ended: { List (List ℕ) → ExitStatus → Type 0 };
+
+    /// Starts the program of the command, which uses up the leave, or hands it back and says why the system doesn't start it.
+    fn launch(&self, go: Go, command: Command) -> Result<(Child, Pending), (Go, io::Error)>
+        ensures started { IfOk result (λ started. (words : List (List ℕ)) → IsHere command words → is_started words) }
+        ensures pending { IfOk result (λ started. (words : List (List ℕ)) → IsHere command words → is_pending started.1 words) };
+
+    /// Waits for the end of the program.
+    fn wait(&self, pending: Pending, child: Child) -> io::Result<ExitStatus>
+        ensures { IfOk result (λ status. (words : List (List ℕ)) → is_pending pending words → has_ended words status) };
+}
+
+/// The operating system, of which nothing is known.
+#[derive(Drop)]
+pub struct System<'a, R> {
+    rt: &'a R,
+}
+
+impl<'a, R> System<'a, R> {
+    pub fn new(rt: &'a R) -> System<'a, R> {
+        System { rt }
+    }
+}
+
+impl<R: Processes<Started = SystemProcess> + Sync> Launch for System<'_, R> {
+    ghost is_started = { λ words. Unit {0} };
+
+    ghost is_pending = { λ pending words. Unit {0} };
+
+    ghost has_ended = { λ words status. Unit {0} };
+
+    fn launch(&self, go: Go, mut command: Command) -> Result<(Child, Pending), (Go, io::Error)> {
+        match command.spawn(self.rt) {
+            Ok(child) => {
+                drop(go);
+                let pending = Pending::of(&child);
+                Ok((child, pending))
+            }
+            Err(error) => Err((go, error)),
+        }
+    }
+
+    fn wait(&self, _pending: Pending, mut child: Child) -> io::Result<ExitStatus> {
+        child.wait()
+    }
+}

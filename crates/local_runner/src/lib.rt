@@ -1,0 +1,28 @@
+//! A runner that runs the programs of a roll on this machine, and leaves notes of them for whoever tells of the roll.
+#![tactic(auto)]
+
+mod clock;
+mod command;
+mod descriptors;
+mod ending;
+mod exit_detail;
+mod kept;
+mod launch;
+mod limits;
+mod output;
+mod outputs;
+mod process_limiter;
+mod read_deadline;
+mod reporter_inbox;
+mod running;
+mod starting;
+mod text;
+mod worker_count;
+
+pub use clock::{milliseconds, milliseconds_since};
+pub use descriptors::occupy_standard;
+pub use exit_detail::ExitDetail;
+pub use launch::{Launch, Pending, System};
+pub use reporter_inbox::{Note, ReporterInbox};
+pub use running::LocalPrograms;
+pub use worker_count::workers;

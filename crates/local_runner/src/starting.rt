@@ -1,0 +1,100 @@
+//! Starting a program.
+ghost use Rattle.std.specs.Prelude.{IfOk, map, string_bytes};
+ghost use Rattle.roll_core.specs.RunPermits.{IsGoOf};
+ghost use Rattle.local_runner.specs.Starts.{IfRunning};
+
+use crate::clock::wait;
+use crate::command::command_of;
+use crate::launch::{Launch, Pending};
+use crate::process_limiter::ProcessLimiter;
+use roll_core::{Go, Job};
+use std::alloc::{AllocError, Global};
+use std::io;
+use std::io::ErrorKind;
+use std::process::Child;
+use std::sync::Wait;
+
+/// Milliseconds between two tries.
+const PAUSE: i32 = 10;
+
+/// The system has as many open files as it takes.
+const ENFILE: i32 = 23;
+
+/// A program that was started, with what stands for it; or why it wasn't: what the system said, if it was asked.
+#[derive(Drop)]
+pub(crate) enum Started {
+    Running(Child, Pending),
+    Refused(Option<io::Error>),
+}
+
+/// A start that may be tried again with the leave.
+#[derive(Drop)]
+struct Refusal {
+    go: Go,
+    error: Option<io::Error>,
+}
+
+/// Starts the program of the job, and uses up the leave for that. Where the system is short of descriptors or processes, that says nothing of
+/// the program: it is tried again while another one of the run is under way, and for some seconds where none is.
+pub(crate) fn start<L: Launch, H: Wait>(
+    launch: &L,
+    rt: &H,
+    alloc: Global,
+    gate: &ProcessLimiter,
+    go: Go,
+    job: &Job,
+) -> Result<Started, AllocError>
+    requires { IsGoOf go job.now }
+    ensures started { IfOk result (λ started. IfRunning started (λ _. L.is_started job.now.words)) }
+    ensures pending { IfOk result (λ started. IfRunning started (λ pending. L.is_pending pending job.now.words)) }
+{
+    let mut tried = start_once(launch, alloc, go, job.words())?;
+    for _ in rt.forever() {
+        let Refusal { go, error } = match tried {
+            Ok((child, pending)) => return Ok(Started::Running(child, pending)),
+            Err(refusal) => refusal,
+        };
+        match error {
+            Some(error) if error.kind() == ErrorKind::OutOfMemory => return Err(AllocError),
+            Some(error) if is_short(&error) && gate.is_worth_a_try(rt) => {}
+            error => return Ok(Started::Refused(error)),
+        }
+        wait(PAUSE);
+        // Those who try again would take from one another what each needs for its start.
+        let alone = gate.try_alone(rt);
+        let again = start_once(launch, alloc, go, job.words());
+        drop(alone);
+        tried = again?;
+    }
+    unreachable!()
+}
+
+/// Tries to start the program of these words.
+fn start_once<L: Launch>(
+    launch: &L,
+    alloc: Global,
+    go: Go,
+    words: &[String],
+) -> Result<Result<(Child, Pending), Refusal>, AllocError>
+    ensures started { IfOk result (λ tried. IfOk tried (λ _. L.is_started (map string_bytes words.now))) }
+    ensures pending { IfOk result (λ tried. IfOk tried (λ started. L.is_pending started.1 (map string_bytes words.now))) }
+{
+    let Some(command) = command_of(alloc, words)? else {
+        return Ok(Err(Refusal { go, error: None }));
+    };
+    match launch.launch(go, command) {
+        Ok(started) => Ok(Ok(started)),
+        Err((go, error)) => {
+            let error = Some(error);
+            Ok(Err(Refusal { go, error }))
+        }
+    }
+}
+
+/// Whether the system is short of what a start takes.
+fn is_short(error: &io::Error) -> bool {
+    match error.raw_os_error() {
+        Some(number) => number == libc::EMFILE || number == ENFILE || number == libc::EAGAIN,
+        None => false,
+    }
+}

@@ -1,9 +1,0 @@
-use Rattle.std.proofs.Common.{◌≡◌, drop}
-use Rattle.missing_names.specs.Lent.{lent_names, names_found}
-use Rattle.missing_names.specs.Misses.{once_behind}
-use Rattle.missing_names.proofs.found.Found.add_all.Given as goal
-
--- what is left goes behind what was found
-abbrev pub invariant-loop-name : goal.invariant-loop-name
-invariant-loop-name l =
-    once_behind (names_found l.self) (lent_names (drop l.name-index l.names)) ≡ once_behind (names_found l.initial.self) (lent_names l.names)

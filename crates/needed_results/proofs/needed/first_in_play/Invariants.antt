@@ -1,9 +1,0 @@
-use Rattle.std.proofs.Common.{◌≡◌, drop}
-use Rattle.needed_results.specs.Needs.{first_given, needed_at, needed_in}
-use Rattle.needed_results.specs.Lookups.{has_gathered}
-use Rattle.needed_results.proofs.needed.first_in_play.Given as goal
-
--- what the steps that are left need first is the first
-abbrev pub invariant-loop-place : goal.invariant-loop-place
-invariant-loop-place l =
-    first_given (needed_at (has_gathered l.earlier) l.play) l.place (drop l.place l.steps) ≡ needed_in (has_gathered l.earlier) l.play

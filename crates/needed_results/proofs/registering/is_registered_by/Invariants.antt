@@ -1,9 +1,0 @@
-use Rattle.std.proofs.Common.{◌≡◌, drop}
-use Rattle.std.specs.List.{list_any}
-use Rattle.needed_results.specs.Registers.{registers, is_registered_by}
-use Rattle.needed_results.proofs.registering.is_registered_by.Given as goal
-
--- what is left decides
-abbrev pub invariant-loop-step : goal.invariant-loop-step
-invariant-loop-step l =
-    list_any (registers l.name) (drop l.step-index l.steps) ≡ is_registered_by l.steps l.name

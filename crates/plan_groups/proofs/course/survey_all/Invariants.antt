@@ -1,6 +1,0 @@
-use Rattle.std.proofs.Common.{take}
-use Rattle.plan_groups.specs.Inside.{AreSurveysOf}
-use Rattle.plan_groups.proofs.course.survey_all.Given as goal
-
-abbrev pub invariant-loop-course : goal.invariant-loop-course
-invariant-loop-course l = AreSurveysOf l.fleet (take l.course-index l.courses) l.surveys.items

@@ -1,5 +1,0 @@
-use Rattle.plan_groups.proofs.ColourLemmas.{colours_change_no_plan}
-use Rattle.plan_groups.proofs.laws.colours_change_no_plan.Goals as goal
-
-pub returns : goal.returns
-returns c = colours_change_no_plan

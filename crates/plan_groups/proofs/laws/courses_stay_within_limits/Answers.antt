@@ -1,5 +1,0 @@
-use Rattle.plan_groups.proofs.LimitLemmas.{courses_stay_within}
-use Rattle.plan_groups.proofs.laws.courses_stay_within_limits.Goals as goal
-
-pub returns : goal.returns
-returns c = courses_stay_within

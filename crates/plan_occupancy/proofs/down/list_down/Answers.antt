@@ -1,0 +1,12 @@
+use Rattle.std.proofs.Common.{ℕ, ◌++◌, ◌∷◌, [], List, Bool, cond, sym, ap, ◌∙◌}
+use Rattle.fleet_index.specs.NumberLists.{numbers_where}
+use Rattle.fleet_index.proofs.RisingLemmas.{numbers_where_more}
+use Rattle.fleet_states.specs.Statuses.{is_down, status_at}
+use Rattle.plan_occupancy.proofs.down.list_down.Goals as goal
+
+pub loop-index-preserved : goal.loop-index-preserved
+loop-index-preserved c =
+    let i : ℕ = c.loop-index.index in
+    let p : ℕ → Bool = λ host. is_down (status_at c.args.statuses.now host) in
+    c.in_ok-push_where.ensures ∙ ap (λ (l : List ℕ). l ++ cond c.is_down.result (i ∷ []) []) c.loop-index.invariant
+    ∙ ap (λ b. numbers_where p i ++ cond b (i ∷ []) []) (c.is_down.ensures ∙ ap is_down c.status_of.ensures) ∙ sym (numbers_where_more p i)

@@ -1,5 +1,0 @@
-use Rattle.planning.proofs.UniqueLemmas.{one_plan_text}
-use Rattle.planning.proofs.laws.one_plan_text.Goals as goal
-
-pub returns : goal.returns
-returns c = one_plan_text

@@ -1,5 +1,0 @@
-use Rattle.play_course.proofs.SameLemmas.{one_boundary_more}
-use Rattle.play_course.proofs.laws.a_play_comes_to_its_next_boundary.Goals as goal
-
-pub returns : goal.returns
-returns c = one_boundary_more

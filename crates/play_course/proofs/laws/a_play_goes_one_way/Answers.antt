@@ -1,5 +1,0 @@
-use Rattle.play_course.proofs.SameLemmas.{one_way}
-use Rattle.play_course.proofs.laws.a_play_goes_one_way.Goals as goal
-
-pub returns : goal.returns
-returns c = one_way

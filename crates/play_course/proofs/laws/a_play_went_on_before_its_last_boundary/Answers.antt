@@ -1,5 +1,0 @@
-use Rattle.play_course.proofs.SameLemmas.{went_on}
-use Rattle.play_course.proofs.laws.a_play_went_on_before_its_last_boundary.Goals as goal
-
-pub returns : goal.returns
-returns c = went_on

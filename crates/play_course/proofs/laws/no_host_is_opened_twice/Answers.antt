@@ -1,5 +1,0 @@
-use Rattle.play_course.proofs.OpenedLemmas.{opened_once}
-use Rattle.play_course.proofs.laws.no_host_is_opened_twice.Goals as goal
-
-pub returns : goal.returns
-returns c = opened_once

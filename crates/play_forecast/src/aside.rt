@@ -1,0 +1,27 @@
+//! Who is set aside, where the counts of the fleet stand.
+ghost use Rattle.std.specs.Prelude.{◌≡◌, IfOk};
+ghost use Rattle.domains.specs.Ids.{host_numbers};
+ghost use Rattle.batch_plan.specs.Places.{AreCountsOf};
+ghost use Rattle.play_forecast.specs.PlayPlans.{aside_by};
+
+use batch_plan::{Domains, Status, held_over};
+use group_tree::HostId;
+use play_model::OnBlocked;
+use std::alloc::{AllocError, Allocator, Global};
+
+/// The hosts that are set aside, by name, where they are not to stop the play. Nobody is counted anew. Only want of memory
+/// refuses it.
+pub fn list_aside_over<A: Allocator>(
+    alloc: Global,
+    domains: &Domains<'_, A>,
+    statuses: &[Status],
+    on_blocked: OnBlocked,
+) -> Result<Vec<HostId>, AllocError>
+    requires { AreCountsOf statuses.now domains.now }
+    ensures { IfOk result (λ hosts. host_numbers hosts.items ≡ aside_by on_blocked domains.now.fleet statuses.now) }
+{
+    match on_blocked {
+        OnBlocked::Stop => Ok(Vec::new(alloc)),
+        OnBlocked::Hold => held_over(alloc, domains, statuses),
+    }
+}

@@ -1,9 +1,0 @@
-use Rattle.std.proofs.Common.{Some, ap}
-use Rattle.play_rules.specs.Breaches.{BadBraces, Spot}
-use Rattle.play_rules.specs.Checks.{rule}
-use Rattle.play_rules.proofs.FaultLaws.{spot_is}
-use Rattle.play_rules.proofs.fault_at.bad_braces.Goals as goal
-
-pub returns : goal.returns
-returns c =
-    ap (λ (spot : Spot). Some (rule (BadBraces spot))) (spot_is c.args.place c.told_play.result c.step.result c.told_play.ensures c.step.ensures)

@@ -1,6 +1,0 @@
-use Rattle.std.proofs.Common.{sym, ◌∙◌}
-use Rattle.play_rules.proofs.NameLaws.{among_lent}
-use Rattle.play_rules.proofs.name_list.NameList.has.Goals as goal
-
-pub returns : goal.returns
-returns c = c.contains.ensures ∙ sym (among_lent c.args.name.now c.args.self.now.names.keys)

@@ -1,5 +1,0 @@
-use Rattle.rehearsing.proofs.LeadLemmas.{undone_command_is_as_before}
-use Rattle.rehearsing.proofs.laws.an_undone_command_leaves_nothing.Goals as goal
-
-pub returns : goal.returns
-returns c = undone_command_is_as_before

@@ -1,5 +1,0 @@
-use Rattle.rehearsing.proofs.OneCourseLemmas.{one_course_text}
-use Rattle.rehearsing.proofs.laws.one_course_text.Goals as goal
-
-pub returns : goal.returns
-returns c = one_course_text

@@ -1,7 +1,0 @@
-use Rattle.std.proofs.Common.{◌≡◌, ◌++◌, drop, filter}
-use Rattle.repeated_keys.specs.Inside.{has, names_of}
-use Rattle.repeated_keys.proofs.keys.keep_those.Given as goal
-
--- those that were kept, and those of the others that will be
-abbrev pub invariant-loop-key : goal.invariant-loop-key
-invariant-loop-key l = names_of l.found.items ++ filter (has l.set) (names_of (drop l.key-index l.keys)) ≡ filter (has l.set) (names_of l.keys)

@@ -1,7 +1,0 @@
-use Rattle.std.proofs.Common.{take}
-use Rattle.domains.specs.Ids.{host_numbers}
-use Rattle.resuming.specs.Debts.{OweAmong}
-use Rattle.resuming.proofs.debts.owe_all.Given as goal
-
-abbrev pub invariant-loop-host : goal.invariant-loop-host
-invariant-loop-host l = OweAmong (take l.host-index (host_numbers l.owing)) l.initial.vars l.vars

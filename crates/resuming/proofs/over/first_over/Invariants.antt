@@ -1,6 +1,0 @@
-use Rattle.std.proofs.Common.{◌≡◌, ℕ, ◌<◌, false}
-use Rattle.fleet_states.specs.Groups.{group_at, groups_of, is_over}
-use Rattle.resuming.proofs.over.first_over.Given as goal
-
-abbrev pub invariant-loop-index : goal.invariant-loop-index
-invariant-loop-index l = (earlier : ℕ) → earlier < l.index → is_over l.statuses (group_at (groups_of l.fleet) earlier) ≡ false

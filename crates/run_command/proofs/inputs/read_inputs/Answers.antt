@@ -1,0 +1,23 @@
+use Rattle.std.proofs.Common.{◌≡◌, ◌<◌, ◌∷◌, List, length, drop, drop-cons, sym, ap, ◌∙◌, arith}
+use Rattle.plan_command.proofs.PlayLemmas.{has_play}
+use Rattle.play_model.specs.declared.play.Play.{Play}
+use Rattle.run_command.proofs.inputs.read_inputs.Goals as goal
+
+pub index-requires : goal.index-requires
+index-requires c =
+    let plays : List Play = c.in-Ok-read_known_plays.plays.items in
+    let some : 0 < length plays = has_play 16 c.args.playbook.now plays c.in-Ok-read_known_plays.ensures.ok.reads in
+    omega (arith, some, c.in-Ok-read_known_plays.plays.ok)
+
+pub returns-clause-ok : goal.returns-clause-ok
+returns-clause-ok c =
+    let plays : List Play = c.in-Ok-read_known_plays.plays.items in
+    let some : 0 < length plays = has_play 16 c.args.playbook.now plays c.in-Ok-read_known_plays.ensures.ok.reads in
+    let first : Play = c.index.result.now in
+    let parts : plays ≡ first ∷ drop 1 plays = drop-cons plays 0 first some ∙ ap (λ (play : Play). play ∷ drop 1 plays) (sym c.index.ensures) in
+    let told = c.in_ok-statuses.ensures in
+    record {
+      hosts = c.in-Ok.ensures.ok;
+      says = c.in-Ok-read_known_plays.ensures.ok;
+      begins = record { first = first; later = drop 1 plays; plays_are = parts; statuses_are = told.statuses };
+    }

@@ -1,0 +1,18 @@
+//! What an operator is told beside a run: why hosts are down at its end, which of them wait and for what, and who is left out from the start.
+#![tactic(auto)]
+
+mod down;
+mod full;
+mod next;
+mod notes;
+mod reasons;
+mod rows;
+mod skipped;
+mod standing;
+mod why;
+
+pub use full::{first_full, list_full};
+pub use next::Call;
+pub use notes::left_out_lines;
+pub use rows::Played;
+pub use why::{Ended, diagnosis_lines, has_why, next_lines};

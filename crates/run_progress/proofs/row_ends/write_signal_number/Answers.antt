@@ -1,0 +1,12 @@
+use Rattle.std.proofs.Common.{codes, refl}
+use Rattle.std.proofs.Math.Facts.{to_z-of_z}
+use Rattle.bounded_io.proofs.WritingLemmas.{writes_two}
+use Rattle.recap.specs.Integers.{integer_text}
+use Rattle.run_progress.specs.Rows.{number_text}
+use Rattle.run_progress.proofs.row_ends.write_signal_number.Goals as goal
+
+pub returns : goal.returns
+returns g c =
+    let same = to_z-of_z c.ranges.number in
+    let integer = rw same at c.write_integer.ensures in
+    writes_two _ _ _ _ (codes " signal=") (integer_text c.args.number) (number_text c.args.number) c.write_str.ensures integer refl

@@ -1,5 +1,0 @@
-use Rattle.running.proofs.SameRuns.{one_recap_by_plays}
-use Rattle.running.proofs.laws.one_recap_by_plays.Goals as goal
-
-pub returns : goal.returns
-returns g c = one_recap_by_plays (g.R.Runner.may c.args.one.now) (g.S.Runner.may c.args.other.now)

@@ -1,9 +1,0 @@
-use Rattle.std.proofs.Common.{subst}
-use Rattle.bounded_io.specs.Writing.{Writes}
-use Rattle.json_texts.specs.PlayJson.{PlayFacts}
-use Rattle.running.specs.Recaps.{facts_text, headed}
-use Rattle.running.proofs.lines.write_fault.Goals as goal
-
-pub returns : goal.returns
-returns g c =
-    subst (λ (facts : PlayFacts). Writes g.W.Write.contents c.args.text.now c.write_one.new.text (headed c.args.several c.args.number (facts_text c.args.fleet.now facts))) c.recap_of_fault.ensures c.write_one.ensures

@@ -1,5 +1,0 @@
-use Rattle.std.proofs.Common.{refl}
-use Rattle.sample_fleets.proofs.groups.limited.Goals as goal
-
-pub same-limited : goal.same-limited
-same-limited c = refl

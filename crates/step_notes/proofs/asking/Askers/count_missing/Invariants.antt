@@ -1,9 +1,0 @@
-use Rattle.std.proofs.Common.{◌≡◌, take}
-use Rattle.std.specs.Prelude.{count_by}
-use Rattle.step_notes.specs.Hosts.{misses}
-use Rattle.step_notes.specs.Inside.{missed_from}
-use Rattle.step_notes.proofs.asking.Askers.count_missing.Given as goal
-
-abbrev pub invariant-loop-place : goal.invariant-loop-place
-invariant-loop-place l =
-    l.count ≡ count_by (misses (missed_from l.self.stand l.self.crowd.lacks.now.vars.now) l.name) (take l.place l.self.crowd.lacks.now.waiting.now)

@@ -1,9 +1,0 @@
-use Rattle.std.proofs.Common.{◌≡◌, drop}
-use Rattle.std.specs.List.{list_any}
-use Rattle.step_notes.specs.Conditions.{answers}
-use Rattle.step_notes.specs.Inside.{said_all}
-use Rattle.step_notes.proofs.conditions.has_test.Given as goal
-
--- the tests that are left decide
-abbrev pub invariant-loop-one : goal.invariant-loop-one
-invariant-loop-one l = list_any (answers l.question) (said_all (drop l.one-index l.tests)) ≡ list_any (answers l.question) (said_all l.tests)

@@ -1,9 +1,0 @@
-use Rattle.std.proofs.Common.{◌≡◌, drop}
-use Rattle.step_notes.specs.Inside.{said_all}
-use Rattle.step_notes.specs.Doubts as model
-use Rattle.step_notes.proofs.doubts.first_doubted.Given as goal
-
--- the first one in what is left is the first
-abbrev pub invariant-loop-one : goal.invariant-loop-one
-invariant-loop-one l =
-    model.first_doubted l.doubt l.fleet l.tasks (said_all (drop l.one-index l.tests)) ≡ model.first_doubted l.doubt l.fleet l.tasks (said_all l.tests)

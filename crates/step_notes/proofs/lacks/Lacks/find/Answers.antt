@@ -1,9 +1,0 @@
-use Rattle.std.proofs.Common.{sym, ◌∙◌}
-use Rattle.step_notes.proofs.LacksLemmas.{none_has}
-use Rattle.step_notes.proofs.lacks.Lacks.find.Goals as goal
-
-pub returns-else-has : goal.returns-else-has
-returns-else-has c =
-    let self = c.args.self.now in
-    let name = c.args.name.now in
-    c.facts_of_none.ensures ∙ none_has self.vars.now self.waiting.now name (self.all name (sym c.has.ensures ∙ c.if-has.false))

@@ -1,5 +1,0 @@
-use Rattle.step_notes.specs.Lacks.{KnowsFacts}
-use Rattle.step_notes.proofs.lacks.learn_all.Given as goal
-
-abbrev pub invariant-loop-name : goal.invariant-loop-name
-invariant-loop-name l = KnowsFacts l.vars l.waiting l.known

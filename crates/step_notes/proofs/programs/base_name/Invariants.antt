@@ -1,6 +1,0 @@
-use Rattle.std.proofs.Common.{◌≡◌, drop}
-use Rattle.step_notes.specs.Programs.{base_from}
-use Rattle.step_notes.proofs.programs.base_name.Given as goal
-
-abbrev pub invariant-loop-place : goal.invariant-loop-place
-invariant-loop-place l = base_from l.base (drop l.place l.bytes) ≡ base_from l.bytes l.bytes

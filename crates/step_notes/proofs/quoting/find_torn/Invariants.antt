@@ -1,7 +1,0 @@
-use Rattle.std.proofs.Common.{◌≡◌, drop}
-use Rattle.step_notes.specs.Quoting.{first_torn}
-use Rattle.step_notes.proofs.quoting.find_torn.Given as goal
-
--- the first one in what is left is the first
-abbrev pub invariant-loop-place : goal.invariant-loop-place
-invariant-loop-place l = first_torn (drop l.place l.words) ≡ first_torn l.words

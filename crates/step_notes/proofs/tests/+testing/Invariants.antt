@@ -1,9 +1,0 @@
-use Rattle.std.proofs.Common.{◌≡◌, ◌++◌, drop, map}
-use Rattle.step_notes.specs.Inside.{said_all}
-use Rattle.step_notes.specs.Tests.{all_of, tests_in_tree}
-use Rattle.step_notes.proofs.tests.+testing.Given as goal
-
--- those of the trees that were read, and those of the others
-abbrev pub invariant-add_in_trees-loop-tree : goal.invariant-add_in_trees-loop-tree
-invariant-add_in_trees-loop-tree l =
-    said_all l.tests.items ++ all_of l.denied (map (tests_in_tree l.text) (drop l.tree-index l.trees)) ≡ said_all l.fn.tests.items ++ all_of l.denied (map (tests_in_tree l.text) l.trees)

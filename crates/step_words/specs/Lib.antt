@@ -1,8 +1,0 @@
-pub mod Unsure
-pub mod Foretelling
-pub mod Lines
-pub mod WordTexts
-pub mod Holes
-pub mod Inside
-pub mod Sending
-pub mod Laws

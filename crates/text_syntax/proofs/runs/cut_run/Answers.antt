@@ -1,0 +1,11 @@
+use Rattle.std.proofs.Common.{ap, ◌∙◌, subst, sym}
+use Rattle.std.specs.List.{prefix_len}
+use Rattle.std.specs.Str.{IsCharBoundary}
+use Rattle.text_syntax.specs.Words.{is_name_byte}
+use Rattle.text_syntax.proofs.Boundaries.{run_ends, name_ascii}
+use Rattle.text_syntax.proofs.runs.cut_run.Goals as goal
+
+pub split_at-requires : goal.split_at-requires
+split_at-requires c =
+    let place = c.count_name_bytes.ensures ∙ ap (prefix_len is_name_byte) c.as_bytes.ensures.value in
+    subst (IsCharBoundary c.args.text.now) (sym place) (run_ends is_name_byte name_ascii c.args.text.now c.utf8.text)

@@ -1,0 +1,25 @@
+//! Whether a word may be rendered.
+ghost use Rattle.std.specs.Prelude.{◌≡◌, IsTrue, IsFalse, OnOk, OnErr};
+ghost use Rattle.text_syntax.specs.Words.{has_braces};
+
+use crate::part::Part;
+use crate::parts::first_word_part;
+
+/// An opening (`{{`, `{%` or `{#`) in a word begins no hole.
+#[derive(Clone, Copy, Debug, PartialEq, Eq)]
+pub struct BadBraces;
+
+/// Refuses a word in which some opening begins no hole. It takes no memory.
+pub fn check_word(word: &str) -> Result<(), BadBraces>
+    ensures ok { OnOk result (IsFalse (has_braces word.now)) }
+    ensures err { OnErr result (IsTrue (has_braces word.now)) }
+{
+    let mut rest = word;
+    while let Some((part, behind)) = first_word_part(rest) {
+        if let Part::Braces = part {
+            return Err(BadBraces);
+        }
+        rest = behind;
+    }
+    Ok(())
+}

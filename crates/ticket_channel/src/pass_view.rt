@@ -1,0 +1,10 @@
+//! What was done with a pass.
+use std::collections::LinkedList;
+
+/// What was put and taken with one pass of a line, and how many parts it has of the right to know the whole. It stands in proofs alone:
+/// no value of it is made.
+pub struct PassView<T> {
+    pub parts: u64,
+    pub put: LinkedList<T>,
+    pub taken: LinkedList<T>,
+}

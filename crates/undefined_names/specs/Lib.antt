@@ -1,0 +1,11 @@
+pub mod InitialEnv
+pub mod Outlook
+pub mod Lent
+pub mod Accords
+pub mod EarlierSteps
+pub mod UndefinedReads
+pub mod Spots
+pub mod Places
+pub mod Inside
+pub mod NoValues
+pub mod Laws
