@@ -19,22 +19,26 @@ KEYS = ["x", "X", "host", "hosts", "childs", "\u00e9", ""]
 
 
 def draw_faulty(seed, number):
-    """The inventory and the playbook of this number."""
-    random = Random(f"{seed}/faulty/{number}")
+    """The files of half this number. An even number asks for all their faults, an odd one for the first."""
+    random = Random(f"{seed}/faulty/{number // 2}")
     if random.random() < 0.1:
-        return _unknown(random)
+        return _unknown(random, number % 2)
     inventory = _inventory(random)
     playbook = _playbook(random, names_in(inventory))
-    return Case(("lint", INVENTORY, *([] if random.random() < 0.1 else [PLAYBOOK])), inventory, playbook)
+    if number % 2:
+        words = ("limits", INVENTORY) if random.random() < 0.1 else ("plan", INVENTORY, PLAYBOOK)
+    else:
+        words = ("lint", INVENTORY, *([] if random.random() < 0.1 else [PLAYBOOK]))
+    return Case(words, inventory, playbook)
 
 
-def _unknown(random):
+def _unknown(random, is_first):
     """Right files but for names in patterns, some at several places, and groups that start over their limits in some."""
     inventory = write(draw_right_inventory(random, down=random.choice([0, 0, 0.9]), limited=random.choice([0, 0.9])), random)
     names = [*names_in(inventory)[:4], "nobody", "x*", "y", "caf\u00e9", "ca\u00fd"]
     plays = draw_right_playbook(random, names, RunStyle([]), random.choice([1, 2, 3]))
     named = [Members((key, ":".join(random.choices(names, k=random.choice([1, 2, 4]))) if key == "hosts" else part) for key, part in play) for play in plays]
-    return Case(("lint", INVENTORY, PLAYBOOK), inventory, write(named, random))
+    return Case(("plan" if is_first else "lint", INVENTORY, PLAYBOOK), inventory, write(named, random))
 
 
 def _inventory(random):

@@ -1,5 +1,5 @@
 -- What it takes to start the program of a job, and how one that was started may end.
-use Rattle.std.specs.Prelude.{◌≡◌, ℕ, ℤ, List, ◌∷◌, false, None}
+use Rattle.std.specs.Prelude.{◌≡◌, ◌⊎◌, ℕ, ℤ, List, [], ◌∷◌, false, None}
 use Rattle.std.specs.Process.{clears_env, command_args, command_dir, command_program, command_var}
 use Rattle.std.specs.declared.process.command.Command.{Command}
 use Rattle.std.specs.declared.process.status.ExitStatus.{ExitStatus}
@@ -16,10 +16,14 @@ pub record IsHere {A : Type 0} (command : Command A) (words : List (List ℕ)) :
   pub inherits : clears_env command ≡ false
   pub vars : (name : List ℕ) → command_var command name ≡ None
 
--- it holds of what stands for the program that was started; of a refusal nothing is said
-abbrev pub IfRunning : Started → (Pending → Type 0) → Type 0
-IfRunning (Running child pending) holds = holds pending
-IfRunning (Refused error) holds = Unit {0}
+-- no program was started with these words: the system refused it, or there is no word
+abbrev pub IsUnstarted : (List (List ℕ) → Type 0) → List (List ℕ) → Type 0
+IsUnstarted is_refused words = is_refused words ⊎ (words ≡ [])
+
+-- the first holds of what stands for the program that was started, the second if none was
+abbrev pub OnStart : Started → (Pending → Type 0) → Type 0 → Type 0
+OnStart (Running child pending) runs refused = runs pending
+OnStart (Refused error) runs refused = refused
 
 -- a program of these words ended with a status of this code
 pub record HasCode (has_ended : List (List ℕ) → ExitStatus → Type 0) (words : List (List ℕ)) (rc : ℤ) : Type 0 where
@@ -27,15 +31,15 @@ pub record HasCode (has_ended : List (List ℕ) → ExitStatus → Type 0) (word
   pub ended : has_ended words status
   pub code : rc ≡ code_of status
 
--- who is told as run ended so, and of whom nothing is known was started, with these words
-abbrev pub IsOfStarted : (List (List ℕ) → Type 0) → (List (List ℕ) → ExitStatus → Type 0) → List (List ℕ) → Ending → Type 0
-IsOfStarted is_started has_ended words (ran rc stdout stderr) = HasCode has_ended words rc
-IsOfStarted is_started has_ended words lost = is_started words
-IsOfStarted is_started has_ended words not_started = Unit {0}
-IsOfStarted is_started has_ended words skipped = ⊥
-IsOfStarted is_started has_ended words (undefined name) = ⊥
+-- a program that ran ended so, a lost one was started, and one that is not started was refused, each with these words
+abbrev pub IsOfStarted : (is_started is_refused : List (List ℕ) → Type 0) → (List (List ℕ) → ExitStatus → Type 0) → List (List ℕ) → Ending → Type 0
+IsOfStarted is_started is_refused has_ended words (ran rc stdout stderr) = HasCode has_ended words rc
+IsOfStarted is_started is_refused has_ended words lost = is_started words
+IsOfStarted is_started is_refused has_ended words not_started = IsUnstarted is_refused words
+IsOfStarted is_started is_refused has_ended words skipped = ⊥
+IsOfStarted is_started is_refused has_ended words (undefined name) = ⊥
 
--- how a program of this machine may end: as one does here, and as one that was started with these words
-pub record MayEndHere (is_started : List (List ℕ) → Type 0) (has_ended : List (List ℕ) → ExitStatus → Type 0) (words : List (List ℕ)) (ending : Ending) : Type 0 where
+-- how a program of this machine may end: as one does here, and as the system has it for these words
+pub record MayEndHere (is_started is_refused : List (List ℕ) → Type 0) (has_ended : List (List ℕ) → ExitStatus → Type 0) (words : List (List ℕ)) (ending : Ending) : Type 0 where
   pub local : IsLocalEnd ending
-  pub started : IsOfStarted is_started has_ended words ending
+  pub started : IsOfStarted is_started is_refused has_ended words ending

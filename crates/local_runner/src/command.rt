@@ -1,5 +1,5 @@
 //! Words as a command.
-ghost use Rattle.std.specs.Prelude.{IfOk, IfSome, map, string_bytes};
+ghost use Rattle.std.specs.Prelude.{◌≡◌, [], IfNone, IfOk, IfSome, map, string_bytes};
 ghost use Rattle.local_runner.specs.Starts.{IsHere};
 
 use std::alloc::{AllocError, Global};
@@ -8,7 +8,8 @@ use std::process::{Command, Stdio};
 /// The first word with the others as its arguments, in this program's folder and environment, with nothing to read and both outputs to this
 /// program; none where there is no word.
 pub(crate) fn command_of(alloc: Global, words: &[String]) -> Result<Option<Command>, AllocError>
-    ensures { IfOk result (λ made. IfSome made (λ command. IsHere command (map string_bytes words.now))) }
+    ensures here { IfOk result (λ made. IfSome made (λ command. IsHere command (map string_bytes words.now))) }
+    ensures none { IfOk result (λ made. IfNone made (map string_bytes words.now ≡ [])) }
 {
     let Some((program, arguments)) = words.split_first() else {
         return Ok(None);

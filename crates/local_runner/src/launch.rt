@@ -1,5 +1,5 @@
 //! Who starts programs.
-ghost use Rattle.std.specs.Prelude.{ℕ, List, IfOk};
+ghost use Rattle.std.specs.Prelude.{ℕ, List, IfErr, IfOk};
 ghost use Rattle.std.specs.declared.process.status.ExitStatus.{ExitStatus};
 ghost use Rattle.local_runner.specs.Starts.{IsHere};
 ghost use Rattle.local_runner.specs.declared.launch.Pending.{Pending};
@@ -20,11 +20,14 @@ impl Pending {
     }
 }
 
-/// Starts programs, and waits for them. With which words one was started, and how one of these words ended, are its relations: nothing else
-/// establishes them.
+/// Starts programs, and waits for them. With which words one was started or refused, and how one of these words ended, are its relations: nothing
+/// else establishes them.
 pub trait Launch {
     /// A program was started with these words, in the folder and environment of this program.
     ghost is_started: { List (List ℕ) → Type 0 };
+
+    /// No program was started with these words: the system refused it.
+    ghost is_refused: { List (List ℕ) → Type 0 };
 
     /// It stands for one that was started with these words.
     ghost is_pending: { Pending → List (List ℕ) → Type 0 };
@@ -35,7 +38,8 @@ pub trait Launch {
     /// Starts the program of the command, which uses up the leave, or hands it back and says why the system doesn't start it.
     fn launch(&self, go: Go, command: Command) -> Result<(Child, Pending), (Go, io::Error)>
         ensures started { IfOk result (λ started. (words : List (List ℕ)) → IsHere command words → is_started words) }
-        ensures pending { IfOk result (λ started. (words : List (List ℕ)) → IsHere command words → is_pending started.1 words) };
+        ensures pending { IfOk result (λ started. (words : List (List ℕ)) → IsHere command words → is_pending started.1 words) }
+        ensures refused { IfErr result (λ _. (words : List (List ℕ)) → IsHere command words → is_refused words) };
 
     /// Waits for the end of the program.
     fn wait(&self, pending: Pending, child: Child) -> io::Result<ExitStatus>
@@ -56,6 +60,8 @@ impl<'a, R> System<'a, R> {
 
 impl<R: Processes<Started = SystemProcess> + Sync> Launch for System<'_, R> {
     ghost is_started = { λ words. Unit {0} };
+
+    ghost is_refused = { λ words. Unit {0} };
 
     ghost is_pending = { λ pending words. Unit {0} };
 

@@ -21,7 +21,8 @@ use std::thread::Threads;
 
 /// Runs each program on this machine: the first word with the others as its arguments and no shell, in this program's folder and environment,
 /// with nothing to read, and no more of them at once than this process may have descriptors for. What it may tell of a program is an end that one
-/// has here, and that it ran only if it was started with the words of its step. It leaves a note of each.
+/// has here: that it ran only if it was started with the words of its step, and that it isn't started only if the system refused these. It leaves a
+/// note of each.
 #[derive(Drop)]
 pub struct LocalPrograms<'a, L: Launch + Sync> {
     launch: L,
@@ -40,7 +41,7 @@ impl<'a, L: Launch + Sync> LocalPrograms<'a, L> {
 }
 
 impl<L: Launch + Sync> Runner for LocalPrograms<'_, L> {
-    ghost may = { λ runner work ending. MayEndHere L.is_started L.has_ended work.words ending };
+    ghost may = { λ runner work ending. MayEndHere L.is_started L.is_refused L.has_ended work.words ending };
 
     ghost alike = { λ one other. Unit {0} };
 
@@ -53,7 +54,7 @@ impl<L: Launch + Sync> Runner for LocalPrograms<'_, L> {
     ) -> Result<Outcome, AllocError>
         requires { IsGoOf go job.now }
         ensures program { IfOk result (λ outcome. is_of_program (ending_of outcome) ≡ true) }
-        ensures allowed { IfOk result (λ outcome. MayEndHere L.is_started L.has_ended job.now.words (ending_of outcome)) }
+        ensures allowed { IfOk result (λ outcome. MayEndHere L.is_started L.is_refused L.has_ended job.now.words (ending_of outcome)) }
     {
         if self.gate.is_full(rt) {
             self.notes.gate_is_full(rt, self.gate.bounds());
@@ -89,7 +90,7 @@ fn run_program<L: Launch, H: Wait>(
 ) -> Result<(Outcome, ExitDetail), AllocError>
     requires { IsGoOf go job.now }
     ensures program { IfOk result (λ ended. is_of_program (ending_of ended.0) ≡ true) }
-    ensures allowed { IfOk result (λ ended. MayEndHere L.is_started L.has_ended job.now.words (ending_of ended.0)) }
+    ensures allowed { IfOk result (λ ended. MayEndHere L.is_started L.is_refused L.has_ended job.now.words (ending_of ended.0)) }
 {
     match start(launch, rt, alloc, gate, go, job) {
         Ok(Started::Running(child, pending)) => {
@@ -121,7 +122,7 @@ fn wait_for_exit<L: Launch, H: Wait>(
     requires started { L.is_started job.now.words }
     requires pending { L.is_pending pending job.now.words }
     ensures program { IfOk result (λ ended. is_of_program (ending_of ended.0) ≡ true) }
-    ensures allowed { IfOk result (λ ended. MayEndHere L.is_started L.has_ended job.now.words (ending_of ended.0)) }
+    ensures allowed { IfOk result (λ ended. MayEndHere L.is_started L.is_refused L.has_ended job.now.words (ending_of ended.0)) }
 {
     let (stdout, stderr) = (child.stdout.take(), child.stderr.take());
     let read = read_both(rt, alloc, &mut child, stdout, stderr);

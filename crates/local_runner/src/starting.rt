@@ -1,7 +1,7 @@
 //! Starting a program.
-ghost use Rattle.std.specs.Prelude.{IfOk, map, string_bytes};
+ghost use Rattle.std.specs.Prelude.{IfErr, IfOk, map, string_bytes};
 ghost use Rattle.roll_core.specs.RunPermits.{IsGoOf};
-ghost use Rattle.local_runner.specs.Starts.{IfRunning};
+ghost use Rattle.local_runner.specs.Starts.{IsUnstarted, OnStart};
 
 use crate::clock::wait;
 use crate::command::command_of;
@@ -45,8 +45,8 @@ pub(crate) fn start<L: Launch, H: Wait>(
     job: &Job,
 ) -> Result<Started, AllocError>
     requires { IsGoOf go job.now }
-    ensures started { IfOk result (λ started. IfRunning started (λ _. L.is_started job.now.words)) }
-    ensures pending { IfOk result (λ started. IfRunning started (λ pending. L.is_pending pending job.now.words)) }
+    ensures started { IfOk result (λ started. OnStart started (λ _. L.is_started job.now.words) (IsUnstarted L.is_refused job.now.words)) }
+    ensures pending { IfOk result (λ started. OnStart started (λ pending. L.is_pending pending job.now.words) (Unit {0})) }
 {
     let mut tried = start_once(launch, alloc, go, job.words())?;
     for _ in rt.forever() {
@@ -78,6 +78,7 @@ fn start_once<L: Launch>(
 ) -> Result<Result<(Child, Pending), Refusal>, AllocError>
     ensures started { IfOk result (λ tried. IfOk tried (λ _. L.is_started (map string_bytes words.now))) }
     ensures pending { IfOk result (λ tried. IfOk tried (λ started. L.is_pending started.1 (map string_bytes words.now))) }
+    ensures refused { IfOk result (λ tried. IfErr tried (λ _. IsUnstarted L.is_refused (map string_bytes words.now))) }
 {
     let Some(command) = command_of(alloc, words)? else {
         return Ok(Err(Refusal { go, error: None }));

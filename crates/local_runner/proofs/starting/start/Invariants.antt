@@ -1,4 +1,5 @@
-use Rattle.std.proofs.Common.{IfOk}
+use Rattle.std.proofs.Common.{IfErr, IfOk}
+use Rattle.local_runner.specs.Starts.{IsUnstarted}
 use Rattle.local_runner.proofs.starting.start.Given as goal
 
 abbrev pub invariant-loop : goal.invariant-loop
@@ -7,4 +8,5 @@ invariant-loop g l = record {
   is_finite : (goal.iterator-loop g).is_finite l.iterator';
   started : IfOk l.tried (λ _. g.L.Launch.is_started l.fn.job.words);
   pending : IfOk l.tried (λ started. g.L.Launch.is_pending started.1 l.fn.job.words);
+  refused : IfErr l.tried (λ _. IsUnstarted g.L.Launch.is_refused l.fn.job.words);
 }
