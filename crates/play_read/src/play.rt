@@ -1,7 +1,7 @@
 //! A play, whole.
 #![tactic(auto, using(playbook_schema::proofs::AddLaws::findings_in_turn))]
 
-ghost use Rattle.std.specs.Prelude.{◌≡◌, ◌+◌, ◌++◌, ◌∷◌, ◌≤◌, [], IfOk, OnOk, length, map, nat_le, true};
+ghost use Rattle.std.specs.Prelude.{◌≡◌, ◌+◌, ◌++◌, ◌∷◌, ◌≤◌, [], IfOk, OnOk, length, map, nat_le, nat_lt, true};
 ghost use Rattle.serde_json.specs.Find.{get};
 ghost use Rattle.serde_json.specs.View.{view};
 ghost use Rattle.play_model.specs.declared.play.Play.{Play};
@@ -131,7 +131,7 @@ fn check_lists(faults: &mut FaultCollector, place: Place, play: &Value) -> Resul
     ensures { OnOk result (Adds (path_at place) faults.old faults.new (spec.checks_of_lists (view play.now))) }
 {
     faults.check(
-        !tasks_of(play).is_empty(),
+        has_tasks(play),
         place,
         Flaw::BadShape(place_of_tasks(play)),
     )?;
@@ -141,6 +141,18 @@ fn check_lists(faults: &mut FaultCollector, place: Place, play: &Value) -> Resul
         Flaw::BadShape(Below::Key("handlers")),
     )?;
     Ok(())
+}
+
+fn has_tasks(play: &Value) -> bool
+    ensures { result ≡ nat_lt 0 (length (spec.tasks_in (view play.now))) }
+{
+    is_some(tasks_of(play).len())
+}
+
+fn is_some(count: usize) -> bool
+    ensures { result ≡ nat_lt 0 count }
+{
+    count > 0
 }
 
 fn place_of_tasks<'a>(play: &Value) -> Below<'a>

@@ -1,4 +1,4 @@
-use Rattle.std.proofs.Common.{◌∷◌, [], Bool, Option, Some, List, not, map, sym, ap, ◌∙◌}
+use Rattle.std.proofs.Common.{◌≡◌, ◌∷◌, [], Bool, Option, Some, List, not, map, sym, ap, ◌∙◌}
 use Rattle.std.specs.List.{list_any}
 use Rattle.serde_json.specs.View.{view}
 use Rattle.text_syntax.specs.Words.{has_braces}
@@ -10,16 +10,16 @@ use Rattle.playbook_schema.specs.Places.{path_at, spot_of}
 use Rattle.playbook_schema.proofs.AddLaws.{adds_same}
 use Rattle.play_read.proofs.command.read_command.Goals as goal
 
-pub returns-in-Some-clause-found : goal.returns-in-Some-clause-found
-returns-in-Some-clause-found c =
+pub returns-in_ok-check-in-Some-clause-found : goal.returns-in_ok-check-in-Some-clause-found
+returns-in_ok-check-in-Some-clause-found c =
     let spot = spot_of c.args.place in
     let at = bad_path [] (view c.args.step.now) in
     let is : Some c.in-Some.words ≡ words_in (view c.args.step.now) = sym c.in-Some.is ∙ c.in_ok-found.ensures in
     adds_same (path_at c.args.place) _ _ _ _ c.in_ok-check-in-Some.ensures
     (ap (λ (bad : Bool). map Broken (unless (not bad) (BadBraces spot))) c.have_bad_braces.ensures ∙ ap (λ (words : Option (List Word)). map Broken (bad_words spot at words)) is)
 
-pub returns-in-None-clause-found : goal.returns-in-None-clause-found
-returns-in-None-clause-found c =
+pub returns-in_ok-add-in-None-clause-found : goal.returns-in_ok-add-in-None-clause-found
+returns-in_ok-add-in-None-clause-found c =
     let spot = spot_of c.args.place in
     let is = sym c.in-None.is ∙ c.in_ok-found.ensures in
     adds_same (path_at c.args.place) _ _ _ _ c.in_ok-add-in-None.ensures

@@ -24,14 +24,15 @@ by_number most plays n few counted tested =
 pub returns-then-not-are_few-clause-found : goal.returns-then-not-are_few-clause-found
 returns-then-not-are_few-clause-found c =
     let plays = plays_in (view c.args.document.now) in
-    let counted = c.len-count.ensures ∙ as_many view c.listed-plays.result.now plays c.listed-plays.ensures in
+    let count = length c.listed-plays.result.now in
+    let counted = as_many view c.listed-plays.result.now plays c.listed-plays.ensures in
     adds_same [] _ _ _ _ c.in_ok-check_number.ensures
-    (sym (append-nil (map Broken (bad_number c.args.most c.len-count.result)))
-    ∙ by_number c.args.most plays c.len-count.result false counted (sym c.if-not-are_few.true ∙ c.are_few.ensures))
+    (sym (append-nil (map Broken (bad_number c.args.most count)))
+    ∙ by_number c.args.most plays count false counted (sym c.if-not-are_few.true ∙ c.are_few.ensures))
 
 pub returns-then-not-are_few-clause-says : goal.returns-then-not-are_few-clause-says
 returns-then-not-are_few-clause-says c = λ silent.
-    let count = c.len-count.result in
+    let count = length c.listed-plays.result.now in
     let none = kept_rules (bad_number c.args.most count) (kept_in_silence [] _ _ (map Broken (bad_number c.args.most count)) c.in_ok-check_number.ensures silent) in
     let few = kept (nat_le count c.args.most) ManyPlays (no_second (unless (nat_lt 0 count) (BadShape [])) _ none) in
     absurd (both_ways _ (sym c.are_few.ensures ∙ c.if-not-are_few.true) few)
@@ -40,13 +41,14 @@ pub returns-clause-found : goal.returns-clause-found
 returns-clause-found c =
     let plays = plays_in (view c.args.document.now) in
     let own = c.listed-plays.result.now in
-    let counted = c.len-count.ensures ∙ as_many view own plays c.listed-plays.ensures in
-    let front = map Broken (bad_number c.args.most c.len-count.result) in
+    let counted = as_many view own plays c.listed-plays.ensures in
+    let count = length own in
+    let front = map Broken (bad_number c.args.most count) in
     on_ok_weaker c.read_each.result
     (λ found. adds_two [] _ _ _ front (checks_of_plays (nat_lt 1 (length own)) 0 (map view own)) _ c.in_ok-check_number.ensures found
     (ap (λ (n : ℕ). front ++ checks_of_plays (nat_lt 1 n) 0 (map view own)) (as_many view own plays c.listed-plays.ensures)
     ∙ ap (λ (list : List Data). front ++ checks_of_plays (nat_lt 1 (length plays)) 0 list) c.listed-plays.ensures
-    ∙ by_number c.args.most plays c.len-count.result _ counted (sym c.if-not-are_few.false ∙ c.are_few.ensures)))
+    ∙ by_number c.args.most plays count _ counted (sym c.if-not-are_few.false ∙ c.are_few.ensures)))
     c.read_each.ensures.found
 
 pub returns-clause-says : goal.returns-clause-says

@@ -7,7 +7,7 @@ use Rattle.playbook_schema.specs.Names.{once, once_more}
 use Rattle.playbook_schema.specs.Places.{path_at}
 use Rattle.playbook_schema.specs.Steps.{is_missing}
 use Rattle.playbook_schema.proofs.AddLaws.{adds_none, adds_same}
-use Rattle.play_read.proofs.Missing.{missing_now, told_new, with_handler, without_handler}
+use Rattle.play_read.proofs.Missing.{told_new, with_handler, without_handler}
 use Rattle.play_read.proofs.notified.check_name.Goals as goal
 
 pub returns-then-has-clause-found : goal.returns-then-has-clause-found

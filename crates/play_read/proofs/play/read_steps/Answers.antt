@@ -1,4 +1,4 @@
-use Rattle.std.proofs.Common.{◌≡◌, ◌+◌, ◌++◌, [], List, length, map, sym, ap, ◌∙◌, subst, arith}
+use Rattle.std.proofs.Common.{◌≡◌, ◌+◌, ◌++◌, [], List, length, map, refl, sym, ap, ◌∙◌, subst, arith}
 use Rattle.serde_json.specs.Data.{Data}
 use Rattle.serde_json.specs.Find.{get}
 use Rattle.serde_json.specs.View.{view}
@@ -20,7 +20,7 @@ use Rattle.play_read.proofs.play.read_steps.Goals as goal
 pub read_handlers-requires-clause-few : goal.read_handlers-requires-clause-few
 read_handlers-requires-clause-few c =
     let play = view c.args.play.now in
-    omega (arith, c.requires, c.len-count.ensures, as_many view c.tasks_of-given.result.now (tasks_in play) c.tasks_of-given.ensures, as_many view c.handlers_of-listed.result.now (handlers_in play) c.handlers_of-listed.ensures)
+    omega (arith, c.requires, as_many view c.tasks_of-given.result.now (tasks_in play) c.tasks_of-given.ensures, as_many view c.handlers_of-listed.result.now (handlers_in play) c.handlers_of-listed.ensures)
 
 pub read_tasks-requires : goal.read_tasks-requires
 read_tasks-requires c =
@@ -34,9 +34,9 @@ returns-clause-found c =
     let tasks = c.tasks_of-given.result.now in
     let handlers = c.handlers_of-listed.result.now in
     let names = known c.read_handlers.new.names in
-    adds_two [] _ _ _ (checks_of_handlers at told (c.len-count.result + 1) 0 [] (map view handlers)) (checks_of_tasks at told 0 c.are_readable-readable.result names (map view tasks)) _
+    adds_two [] _ _ _ (checks_of_handlers at told (length tasks + 1) 0 [] (map view handlers)) (checks_of_tasks at told 0 c.are_readable-readable.result names (map view tasks)) _
     c.in_ok-handlers.ensures.found c.in_ok-tasks.ensures.found
-    (steps_are at told (view c.args.play.now) tasks handlers c.len-count.result c.are_readable-readable.result names c.len-count.ensures c.tasks_of-given.ensures c.handlers_of-listed.ensures c.are_readable-readable.ensures c.in_ok-handlers.ensures.names)
+    (steps_are at told (view c.args.play.now) tasks handlers (length tasks) c.are_readable-readable.result names refl c.tasks_of-given.ensures c.handlers_of-listed.ensures c.are_readable-readable.ensures c.in_ok-handlers.ensures.names)
 
 pub returns-clause-says : goal.returns-clause-says
 returns-clause-says c = λ kept.
@@ -46,8 +46,8 @@ returns-clause-says c = λ kept.
     let tasks = c.tasks_of-given.result.now in
     let handlers = c.handlers_of-listed.result.now in
     let names = known c.read_handlers.new.names in
-    let whole = steps_are at told play tasks handlers c.len-count.result c.are_readable-readable.result names c.len-count.ensures c.tasks_of-given.ensures c.handlers_of-listed.ensures c.are_readable-readable.ensures c.in_ok-handlers.ensures.names in
-    let both = kept_parts (checks_of_handlers at told (c.len-count.result + 1) 0 [] (map view handlers)) (checks_of_tasks at told 0 c.are_readable-readable.result names (map view tasks)) (subst AllKept (sym whole) kept) in
+    let whole = steps_are at told play tasks handlers (length tasks) c.are_readable-readable.result names refl c.tasks_of-given.ensures c.handlers_of-listed.ensures c.are_readable-readable.ensures c.in_ok-handlers.ensures.names in
+    let both = kept_parts (checks_of_handlers at told (length tasks + 1) 0 [] (map view handlers)) (checks_of_tasks at told 0 c.are_readable-readable.result names (map view tasks)) (subst AllKept (sym whole) kept) in
     record {
       tasks =
           subst (λ (list : List Data). AreSteps (map (step_of (handler_names play)) list) c.in_ok-tasks.tasks.items) c.tasks_of-given.ensures

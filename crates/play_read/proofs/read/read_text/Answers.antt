@@ -21,11 +21,11 @@ returns-in-Some c =
     (λ told are. record { are_told = record { named = are.named; all = inr (document, is.0, is.1, are.tells); are_told = are.are_told }; some = are.some }))
     c.plays_in.ensures
 
-pub returns-in-None : goal.returns-in-None
-returns-in-None c =
+pub returns-in_ok-no_json-in-None : goal.returns-in_ok-no_json-in-None
+returns-in_ok-no_json-in-None c =
     let none : IsNoJson c.args.text.now = rw c.in-None.is at c.in_ok-found.ensures in
-    let are = c.in_ok-no_json.ensures in
+    let are = c.in_ok-no_json-in-None.ensures in
     record {
       are_told = record { named = rule NotJson ∷ []; all = inl (refl, none); are_told = are };
-      some = one_is_told c.args.most (rule NotJson) c.in_ok-no_json.field-0 are;
+      some = one_is_told c.args.most (rule NotJson) c.in_ok-no_json-in-None.field-0 are;
     }
