@@ -31,7 +31,7 @@ drawn:
 pages:
 	@python3 tests/house/made.py
 
-# The definitions that contracts cite, crate by crate, each with the comment above it. `make definitions`, `make definitions CRATES="journal keeping"`
+# The definitions that contracts cite, crate by crate, each with the comment above it. `make definitions`, `make definitions CRATES="journal journal_writer"`
 definitions:
 	@python3 tests/house/definitions.py $(CRATES)
 

@@ -2,7 +2,7 @@
 """Prints the definitions that contracts cite: crate by crate, file by file, each with the comment above it.
 
     make definitions                            of all crates
-    make definitions CRATES="journal keeping"   of these
+    make definitions CRATES="journal journal_writer"   of these
 """
 
 import os
