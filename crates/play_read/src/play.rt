@@ -130,11 +130,7 @@ fn read_settings(
 fn check_lists(faults: &mut FaultCollector, place: Place, play: &Value) -> Result<(), AllocError>
     ensures { OnOk result (Adds (path_at place) faults.old faults.new (spec.checks_of_lists (view play.now))) }
 {
-    faults.check(
-        has_tasks(play),
-        place,
-        Flaw::BadShape(place_of_tasks(play)),
-    )?;
+    faults.check(has_tasks(play), place, Flaw::BadShape(place_of_tasks(play)))?;
     faults.check(
         are_readable(play),
         place,
