@@ -22,7 +22,7 @@ loop-part-preserved c =
     let before = known l.before in
     let own = once before (filter nothing (part ∷ [])) in
     let added = c.in_ok-add_part.ensures in
-    let all : parts_of l.rest ≡ part ∷ later = c.in-Some.ensures.part in
+    let all : parts_of l.rest.now ≡ part ∷ later = c.in-Some.ensures.part in
     record {
       text = search rules;
       told =

@@ -9,4 +9,4 @@ returns-then-not-has_room c =
 
 pub returns : goal.returns
 returns c =
-    on_ok_weaker c.keep.result (told_where c.args.self.now _ _ _ (sym c.has_room.ensures ∙ c.if-not-has_room.false) (ap (λ (name : List ℕ). Some name) c.in_ok-name.ensures)) c.keep.ensures
+    on_ok_weaker c.keep.result (told_where c.args.self.now _ _ _ (sym c.has_room.ensures ∙ c.if-not-has_room.false) (ap (λ (name : List ℕ). Some name) c.in_ok-name.ensures.ok)) c.keep.ensures
