@@ -66,11 +66,11 @@ impl Fleet {
         }
     }
 
-    /// Returns the fleet of a tree, or its errors, at most `most` of them, and how many more there are. Too many
-    /// hosts are the only error reported. Otherwise come the pairs of limited groups that share a host although
-    /// neither contains the other. Each pair has the first such host by name, and they are in the order of these
-    /// hosts. If there is none, each group with more hosts down than its limit follows, in preorder. Fails only if an
-    /// allocation fails.
+    /// Returns the fleet of a tree, or its errors: at most `most` of them, and how many more there are. If there are
+    /// too many hosts, that is the only error. Otherwise, the errors are the pairs of limited groups that share a
+    /// host although neither contains the other. Each pair comes with the first such host by name, in the order of
+    /// these hosts. If there is no such pair, they are the groups with more hosts down than their limits allow, in
+    /// preorder. Fails only if an allocation fails.
     pub fn build_or_tell<A: Allocator>(
         alloc: Global,
         tree: &Tree<A>,

@@ -56,7 +56,8 @@ impl Marks {
         }
     }
 
-    /// Sets the flags of the hosts with this name or in the group with this name. Returns whether the name exists.
+    /// Sets the flags of the hosts of the group with this name, otherwise of the host with this name. Returns whether
+    /// either exists.
     #[tactic(auto, using(crate::proofs::MarkLemmas::group_known, crate::proofs::MarkLemmas::host_known, crate::proofs::MarkLemmas::host_flagged))]
     fn mark_name(&mut self, fleet: &Fleet, name: &str) -> bool
         requires { AreFlags fleet.now self.old.groups.items self.old.hosts.items }
