@@ -15,8 +15,8 @@ use roll_run::Recorder;
 use std::alloc::Global;
 
 /// Records a run in a journal, a file that it creates when the plays start. The opening of a batch is on the disk before any of its
-/// programs is started, with every record before it. If the file can't be created, doesn't accept a complete line, or can't be synced to
-/// the disk, nothing more is recorded and no further batch opens.
+/// programs is started, with every record before it. If the file can't be created, synced to the disk, or doesn't accept a complete line,
+/// nothing more is recorded and no further batch opens.
 #[derive(Drop)]
 pub struct JournalWriter<'k, S: JournalStore> {
     alloc: Global,

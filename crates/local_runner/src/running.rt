@@ -21,8 +21,8 @@ use std::thread::Threads;
 
 /// Runs each program on the local machine. The first word is the program and the others are its arguments; no shell is involved. The
 /// program has this process's directory and environment, and reads empty input. No more programs run at once than this process may have
-/// descriptors for. It reports only how a program really ended: that it ran only if it was started with its step's words, and that it isn't
-/// started only if the operating system refused these. It leaves a note of each program.
+/// descriptors for. It reports only how a program really ended. It reports that one ran only if it was started with its step's words. It
+/// reports that one isn't started only if the operating system refused these words. It leaves a note of each program.
 #[derive(Drop)]
 pub struct LocalPrograms<'a, L: Launch + Sync> {
     launch: L,

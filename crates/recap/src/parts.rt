@@ -3,8 +3,8 @@ use fleet_states::Status;
 use host_track::Counts;
 use play_forecast::{Boundary, End};
 
-/// What a recap shows of a play's run: its boundaries, the first `opened` of which opened a batch; each host's status at the end, and how
-/// its rows are judged; and the end. An interrupted run has no end.
+/// What a recap shows of a play's run. The first `opened` of its boundaries opened a batch. Each host has its status at the end, and how
+/// its rows are judged. An interrupted run has no end.
 #[derive(Clone, Copy, Debug)]
 pub struct Recap<'r> {
     pub boundaries: &'r [Boundary],

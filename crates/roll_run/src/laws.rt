@@ -9,7 +9,7 @@ pub fn runs_are_courses<R: Runner>(runner: &R)
     ensures { RunsAreCourses (R.may runner.now) }
 {}
 
-/// If a run is interrupted while no batch is open, no worker caused it: the run was asked to end, its recorder refused a batch, or the
+/// If a run is interrupted while no batch is open, no worker caused it. The run was asked to end, its recorder refused a batch, or the
 /// coordinator failed.
 pub fn no_worker_fails_at_boundaries<R: Runner>(runner: &R)
     ensures { NoWorkerAtBoundaries (R.may runner.now) }
