@@ -8,8 +8,8 @@ const RULE: &str = "a task can notify only handlers of its own play, by name";
 
 const TWICE: &str = "keep one, or give each its own name";
 
-/// Suggests the closest handler name, or shows the first task that notifies a handler of this name in a play without
-/// handlers.
+/// Suggests the closest handler name, and shows the first task that notifies a handler of this name in a play without
+/// one.
 pub(crate) fn no_handler(
     alloc: Global,
     top: Option<&Value>,

@@ -61,7 +61,7 @@ fn hint_on(
     }
 }
 
-/// Returns the position of the group with this number, from 1, and that of the first one with its name.
+/// Shows the path of the group with this number, from 1, and that of the first one with its name.
 fn twice(alloc: Global, top: Option<&Value>, group: usize) -> Result<String, AllocError> {
     let Some(top) = top else {
         return String::from_str(alloc, TWICE);

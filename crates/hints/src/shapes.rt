@@ -113,7 +113,7 @@ fn whole(found: Option<&Value>) -> &'static str {
     }
 }
 
-/// Returns which of these keys an object lacks.
+/// Shows which of these keys an object lacks, and what is expected.
 fn lacking(
     alloc: Global,
     found: Option<&Value>,
