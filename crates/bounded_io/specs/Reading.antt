@@ -14,8 +14,8 @@ pub record IsWholeInput (old new : Option (List ℕ)) (input : List ℕ) : Type 
   pub end : IsAtEnd new
   pub within : length input ≤ max_input
 
--- when an error can occur, by the number of bytes read; an input is too large as soon as a byte past the bound is
--- read, and neither a failed read nor a failed allocation is reported of such an input
+-- when an error can occur, by the number of bytes read: an input is too large as soon as a byte past the bound is
+-- read; a failed read or a failed allocation is not reported of such an input
 abbrev pub ComesAfter : InputFault → ℕ → Type 0
 ComesAfter TooLarge count = count ≡ max_input + 1
 ComesAfter File count = count ≤ max_input
