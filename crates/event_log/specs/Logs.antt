@@ -28,7 +28,7 @@ pub record MayOpen (roll : Roll) (state : State) (batch : List ℕ) : Type 0 whe
   pub ready : are_ready state.statuses batch ≡ true
   pub fits : Fits roll.groups state.statuses batch
 
--- a host of the batch may be claimed once for the current step if it is due on the host and fewer claims than forks
+-- a host of the batch may be claimed once for the current step: the step is due on it, and fewer claims than forks
 -- are outstanding
 pub record MayClaim (roll : Roll) (state : State) (host step : ℕ) : Type 0 where
   pub at : state.phase ≡ working step

@@ -14,8 +14,8 @@ use Rattle.inventory_read.specs.Documents.{Listed, part, groups_of}
 use Rattle.inventory_read.specs.Paths.{down_path, host_path, limit_path, part_path, text_path_of}
 use Rattle.inventory_read.specs.Values.{limit_of, inventory_of}
 
--- a broken rule, with the path of a value, a bad name, or the preorder number (counted from 1) of a group whose name
--- occurs before
+-- a broken rule, with the path of a value, a bad name, or the preorder number of a group whose name occurs before;
+-- numbers start at 1
 -- occurs before
 pub data Breach : Type 0 where
   NotJson : Breach
