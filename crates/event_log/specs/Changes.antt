@@ -43,8 +43,7 @@ FailedFromTheFailingRowOn =
     (roll : Roll) (log : List Event) → IsLegal roll (start_state roll) log → (n host : ℕ) → has_number host (front roll log n).batch ≡ true
     → status_at (front roll log n).statuses host ≡ (if has_failed ((front roll log n).rows host) then Failed else Running)
 
--- while a batch is at a step, the rows of each of its hosts are those of its own track before this step, or through
--- it
+-- while a batch is at a step, each of its hosts has the rows of its own track before this step, or through it
 pub record IsOnTrack (roll : Roll) (columns : Columns) (state : State) (host step : ℕ) : Type 0 where
   pub rows : (state.rows host ≡ track roll.play (roll.known host) (columns host) step) ⊎ (state.rows host ≡ track roll.play (roll.known host) (columns host) (suc step))
 
