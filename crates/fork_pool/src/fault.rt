@@ -14,7 +14,7 @@ pub enum StepFault {
 }
 
 impl StepFault {
-    /// Returns the number of the error, or none if the coordinator failed.
+    /// Returns the number of the error; `Mem` has none.
     pub fn number(&self) -> Option<u16>
         ensures { result ≡ number_of self.now }
     {

@@ -23,7 +23,7 @@ pub fn ends_are_said_truly()
     ensures { EndsAreSaidTruly }
 {}
 
-/// If lines after the last `open` line of a journal are lost, no down host is: each host that is down in the run is down by what is left.
+/// Losing the lines after the last `open` line of a journal loses no down host. Each host that is down in the run is down by what is left.
 pub fn nothing_is_lost()
     ensures { TruncationKeepsDownHosts }
 {}

@@ -46,7 +46,7 @@ abbrev pub is_kind_name : Name → Bool
 is_kind_name word = list_any (λ kind. same_name (kind_name kind) word) all_kinds
 
 -- The text consists of names of rules. They are separated as the parts of a host pattern are: by a comma or a colon, with optional
--- whitespace around it. Empty parts are ignored.
+-- whitespace around it. Nothing between two commas is not a part.
 abbrev pub are_kind_names : List ℕ → Bool
 are_kind_names text = list_all is_kind_name (parts_of text)
 

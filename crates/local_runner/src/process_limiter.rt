@@ -93,8 +93,8 @@ impl ProcessLimiter {
         self.left.notify_one();
     }
 
-    /// Reports whether to retry a start that failed for lack of a resource: another program is running, or none has been for only a short
-    /// time. Without a clock, that time has passed at once.
+    /// Reports whether to retry a start that failed for lack of a resource. That is so if another program is running, or none has been for
+    /// only a short time. Without a clock, that time has passed at once.
     pub(crate) fn is_worth_a_try<H: Wait>(&self, rt: &H) -> bool {
         let mut inside = self.inside.lock(rt);
         if inside.started > 0 {

@@ -1,4 +1,4 @@
-//! What no contract and no command covers about workers. A step on its own pool completes if there is memory, its programs run at once, and
+//! What no contract and no command covers about workers. A step on its own pool completes if there is memory. Its programs run at once, and
 //! it is the same with any number of forks. Also covered are failed allocations, what an incomplete step reports, and that the threads of a
 //! channel end.
 #![tactic(auto)]

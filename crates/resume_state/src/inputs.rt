@@ -152,8 +152,8 @@ pub fn begin_inputs(
 }
 
 /// Reads the inventory, the playbook and the journal, and returns what the run resumes with. Reports errors of the inventory first, then of
-/// the playbook, of the names of hosts that are back up, and of the journal. Last come the reasons why the run can't resume. The playbook
-/// has another number of plays, the run has had all of them, a step reads a lost result, or a group exceeds its limit.
+/// the playbook, of the names of hosts that are back up, and of the journal. Last come the reasons why the run can't resume. The number of
+/// plays differs, the run has had all of them, a step reads a lost result, or a group exceeds its limit.
 pub fn resume_inputs(
     alloc: Global,
     inventory: &[u8],

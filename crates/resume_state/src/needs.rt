@@ -32,9 +32,9 @@ fn is_updated(status: Status) -> bool
     }
 }
 
-/// Returns the first lost result that a later step reads: one that an earlier play registers and the play after `before` plays, or a later
-/// one, reads. If `is_left` is true, hosts don't run that play again, so the results that it registers for later plays count too. Fails
-/// only if an allocation fails.
+/// Returns the first lost result that a later step reads. An earlier play registers it, and the play after `before` plays or a later one
+/// reads it. If `is_left` is true, hosts don't run that play again, so the results that it registers for later plays count too. Fails only
+/// if an allocation fails.
 pub(crate) fn needed_behind<'p>(
     alloc: Global,
     plays: &'p [Play],

@@ -24,7 +24,7 @@ use std::marker::Model;
 
 /// A run of one play over a fleet, from its start on. Its log is legal, and no group exceeds its limit at any point of it. The hosts that
 /// are down are those of the state after the log. The share of each host of the open batch is stored here, or is in its `Claim` or
-/// `Completion`; dropping one of these loses the share.
+/// `Completion`. Dropping one of these loses the share.
 #[derive(Drop)]
 pub struct Kernel<'f> {
     roster: Roster<'f>,

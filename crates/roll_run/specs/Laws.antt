@@ -27,7 +27,8 @@ RunsAreCourses may =
     → AreRuns may fleet forks (first ∷ later) statuses vars (run ∷ rest) logs → TellTheirs columns fleet forks (first ∷ later) statuses vars (run ∷ rest) logs
     → AreCourses (setting_of fleet (roll_by fleet first forks statuses vars) (columns 0)) (settings_after columns fleet forks 1 later run rest) statuses (map course_of (run ∷ rest))
 
--- if a run was interrupted while no batch was open, it was asked to end, its recorder refused a batch, or the coordinator failed
+-- if a run was interrupted while no batch was open, it was asked to end, its recorder refused a batch, memory ran out in the coordinator,
+-- or a worker could not be started
 abbrev pub NoWorkerAtBoundaries : (Work → Ending → Type 0) → Type 0
 NoWorkerAtBoundaries may =
     (fleet : FleetView) (roll : Roll) (fault : RunFault) (log : List Event) → IsBrokenOff may fleet roll fault log → (end_state roll log).phase ≡ between → (fault.why ≡ Asked) ⊎ ((fault.why ≡ Unkept) ⊎ (fault.why ≡ Fault Mem))

@@ -56,7 +56,7 @@ pub struct RunsFault {
 }
 
 impl RunsFault {
-    /// Returns the result if memory ran out before the first play had a board.
+    /// Returns the result if memory ran out, or a worker could not be started, before the first play had a board.
     pub(crate) fn before_a_log(alloc: Global, statuses: Vec<Status>) -> RunsFault
         ensures done { result.done.items ≡ [] }
         ensures last { IsNotBegun statuses.items result.last [] }

@@ -9,8 +9,8 @@ pub fn runs_are_courses<R: Runner>(runner: &R)
     ensures { RunsAreCourses (R.may runner.now) }
 {}
 
-/// If a run is interrupted while no batch is open, no worker caused it. The run was asked to end, its recorder refused a batch, or the
-/// coordinator failed.
+/// If a run is interrupted while no batch is open, its workers' programs did not cause it. The run was asked to end, its recorder refused a
+/// batch, memory ran out in the coordinator, or a worker could not be started.
 pub fn no_worker_fails_at_boundaries<R: Runner>(runner: &R)
     ensures { NoWorkerAtBoundaries (R.may runner.now) }
 {}

@@ -1,4 +1,4 @@
--- What an operator is told if a run has not updated every host.
+-- What is reported to an operator if a run has not updated every host.
 use Rattle.std.specs.Prelude.{ℕ, Bool, true, false, not, ◌||◌, Option, None, Some, List, ◌++◌}
 use Rattle.std.specs.List.{list_any}
 use Rattle.domains.specs.FleetViews.{FleetView}

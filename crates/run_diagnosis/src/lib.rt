@@ -1,5 +1,5 @@
-//! What an operator is told in addition to the results of a run. Why are hosts down at its end, which hosts wait and for what, and which
-//! were skipped?
+//! What is reported to an operator in addition to the results of a run. Why are hosts down at its end, which hosts wait and for what, and
+//! which were skipped?
 #![tactic(auto)]
 
 mod down;

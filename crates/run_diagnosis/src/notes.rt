@@ -147,9 +147,9 @@ fn are_several(plays: &[Play]) -> bool
     plays.len() > 1
 }
 
-/// Returns the note about the hosts that these plays name and that are off at the start of the first play, or nothing if there is none. A
-/// host appears once however many plays name it, since all of them skip it. If the plays' patterns were resolved before, fails only if an
-/// allocation fails.
+/// Returns the note about the hosts that these plays name and that are off at the start of the first play. Returns nothing if there are
+/// none. A host appears once however many plays name it, since all of them skip it. If the plays' patterns were resolved before, fails only
+/// if an allocation fails.
 pub fn left_out_lines(
     alloc: Global,
     fleet: &Fleet,

@@ -1,4 +1,4 @@
-//! What an operator is told if a run has not updated every host.
+//! What is reported to an operator if a run has not updated every host.
 ghost use Rattle.std.specs.Prelude.{◌≡◌, ◌++◌, IfOk, OnOk, false, length, map, option_map, slice_index_or};
 ghost use Rattle.std.specs.List.{list_any};
 ghost use Rattle.domains.specs.Ids.{host_numbers};

@@ -13,9 +13,9 @@ pub fn runs_go_as_rehearsed<R: Runner>(runner: &R)
     ensures broken { BrokenRunsGoAsRehearsed (R.may runner.now) }
 {}
 
-/// The runs of a file of plays open the batches of the forecast in which the same hosts fail at the same steps, with any number of workers.
-/// The forecast that `plan --forecast` prints has the boundary lines and the ends of their recaps. Likewise for runs that resume within a
-/// file, with the forecast from the statuses they resume with. Failures of hosts whose batch was not completed don't matter.
+/// The runs of a file of plays match the forecast with the same failures at the same steps, with any number of workers. They open its
+/// batches. The forecast that `plan --forecast` prints has the boundary lines and the ends of their recaps. Likewise for runs that resume
+/// within a file, with the forecast from the statuses they resume with. Failures of hosts whose batch was not completed don't matter.
 pub fn runs_open_their_courses<R: Runner>(runner: &R)
     ensures { RunsOpenTheirCourses (R.may runner.now) }
 {}
@@ -24,7 +24,7 @@ pub fn runs_open_their_courses<R: Runner>(runner: &R)
 /// workers, matches the answer if its hosts fail like the named ones. That is, in each batch that the session has passed, exactly the named
 /// hosts fail, at the first step. The run opened those batches first, in that order. It reached the session's boundary with the same plan,
 /// or with the group that blocks it. It ended there if the session reported an end, with that end. In either form, the bytes of the answer
-/// are those that the run itself gives: its opened batches, its plan, its hosts' states and its end. Its recap as text starts with the
+/// are those that the run itself gives: the opened batches, the plan, the hosts' states and the end. Its recap as text starts with the
 /// lines of these boundaries. Hosts whose batch the session has not reached don't matter. An interrupted run matched the answer as far as
 /// it came.
 pub fn runs_go_as_answered<R: Runner>(runner: &R)

@@ -100,7 +100,8 @@ fn write_row_front<W: Write>(text: &mut TextWriter<'_, W>, host: &str, step: u64
     text.write_str(verdict_member(judged));
 }
 
-/// Writes how a step ended on a host and was judged, what is kept of its program's outputs if it failed, and why none was started.
+/// Writes how a step ended on a host and was judged. If the program failed, adds what is kept of its outputs; if none was started, adds
+/// why.
 #[tactic(auto, using(bounded_io::proofs::Pieces::pieces_of_text))]
 pub(crate) fn write_row_json<W: Write>(
     text: &mut TextWriter<'_, W>,

@@ -67,7 +67,8 @@ holed_in (grammar.equals left contrary right) = option_or (holed left) (holed ri
 holed_in (grammar.within group contrary) = None
 holed_in (grammar.alone operand) = holed operand
 
--- The name of the result, if the test holds only if its step changed something. After a failed attempt a second one changes nothing, so the test doesn't hold.
+-- The name of the result, if the test holds only if its step changed something. After a failed attempt a second one changes nothing, so the
+-- test doesn't hold.
 abbrev pub if_changed : Bool → State → Name → Option Name
 if_changed turned state.Changed name = if turned then None else Some name
 if_changed turned state.Failed name = None

@@ -88,8 +88,8 @@ fn has_test(question: TestPredicate, tests: &[SpannedTest<'_>]) -> bool
     false
 }
 
-/// Reports whether one of its tests tests for a group or compares what it reads, and none tests only whether a value is true, or defined.
-/// Fails only if an allocation fails.
+/// Reports whether one of its tests tests for a group or compares what it reads. None of them may test only whether a value is true, or
+/// defined. Fails only if an allocation fails.
 pub(crate) fn is_matched(alloc: Global, when: &Option<Cond>) -> Result<bool, AllocError>
     ensures { IfOk result (λ matched. matched ≡ model.is_matched when.now) }
 {

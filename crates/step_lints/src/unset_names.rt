@@ -84,8 +84,8 @@ fn add_read<'s, N: Names>(
     Ok(())
 }
 
-/// Returns the names that the step reads, each once: of `names`, those it reads before its program is run, and of `others`, those it reads
-/// after. Fails only if an allocation fails.
+/// Returns the names that the step reads, each once. Of `names` these are the ones it reads before its program is run, and of `others`
+/// those it reads after. Fails only if an allocation fails.
 pub(crate) fn list_once<'p, N: Names, M: Names>(
     alloc: Global,
     step: &'p Step,

@@ -13,8 +13,8 @@ use std::sync::ledger::Ledger;
 
 impl<'f, R: Runner, L: Ledger, W: Observer> Board<'f, R, L, W> {
     /// Returns the next host of the batch on which the current step is due and that no worker has taken. It comes with its share, its job
-    /// and the permit to run the job once, or with the step's end if no program is to run. Returns nothing if there is no such host, if no
-    /// batch is at a step, or if `forks` claims are out. If an allocation fails, changes nothing.
+    /// and the permit to run the job once. If no program is to run, it comes with the step's end instead. Returns nothing if there is no
+    /// such host, if no batch is at a step, or if `forks` claims are out. If an allocation fails, changes nothing.
     pub fn claim(&mut self, alloc: Global) -> Result<Option<Claimed<'f, R>>, AllocError>
         ensures ok { IfOk result (IsGiving self.old self.new) }
         ensures leave { IfOk result (λ out. IfSome out HasItsGo) }
