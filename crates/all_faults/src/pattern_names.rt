@@ -146,9 +146,8 @@ fn add_pattern(told: &mut NameCollector, fleet: &Fleet, pattern: &str) -> Result
     Ok(())
 }
 
-/// Returns the first `most` names in the plays' patterns that match neither a group nor a host of the fleet, and how
-/// many more there are. They are in order of plays and of appearance, each once per play. Fails only if an allocation
-/// fails.
+/// Returns the first `most` names in the plays' patterns that match nothing in the fleet, and how many more there
+/// are. They are in order of plays and of appearance, each once per play. Fails only if an allocation fails.
 pub(crate) fn pattern_faults(
     alloc: Global,
     fleet: &Fleet,

@@ -61,7 +61,7 @@ pub record MayBeSetAside (groups : List FleetGroup) (statuses : List Status) (ho
   pub ready : are_ready statuses hosts ≡ true
   pub stuck : list_all (lacks_room groups statuses) hosts ≡ true
 
--- the held hosts can be held
+-- the hosts to be held can be held
 abbrev pub HeldMayBeSetAside : Type 0
 HeldMayBeSetAside =
     (fleet : FleetView) (statuses : List Status) → MayBeSetAside (groups_of fleet) statuses (held_hosts fleet statuses)

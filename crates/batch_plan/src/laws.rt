@@ -1,4 +1,4 @@
-//! Laws of every plan, however it was made, and of the counts behind plans.
+//! Laws of every plan, however it was made, and of the counts from which plans are made.
 ghost use Rattle.batch_plan.specs.Laws.{AnAnswerExists, AnswersOneLess, BlockedMeansNone, BoundsHold, CountsFollow, FirstMayBeOpened};
 ghost use Rattle.batch_plan.specs.Laws.{HeldMayBeSetAside, OneAnswer, OneBatchLess, PlansHoldNobody, StandsInOne};
 
@@ -28,7 +28,7 @@ pub fn no_host_stands_in_two_batches()
     ensures { StandsInOne }
 {}
 
-/// Every held host waited and is in a group without room.
+/// The hosts to be held wait, and each is in a group without room.
 pub fn held_hosts_may_be_set_aside()
     ensures { HeldMayBeSetAside }
 {}

@@ -118,7 +118,7 @@ impl<'f> Roster<'f> {
         }
     }
 
-    /// Holds a waiting host: it is up and in no batch.
+    /// Holds a waiting host: it is up and gets no batch in this play.
     pub fn set_aside(&mut self, host: HostId)
         requires { is_waiting (status_at self.old.statuses host.index) ≡ true }
         ensures { self.new ≡ record self.old { statuses = slice_set self.old.statuses host.index Held } }

@@ -60,7 +60,7 @@ abbrev pub steps_until : Roll → Option ℕ → ℕ
 steps_until roll None = length roll.play.steps.items
 steps_until roll (Some halt) = suc halt
 
--- the batch has halted where its hosts on their own say, with as many failures; each host has the rows of its track
+-- the batch has halted as its hosts on their own decide, with as many failures; each host has the rows of its track
 -- up to there; closing the batch changes only the statuses of its hosts, each by its own failing step
 pub record EndsByColumns (roll : Roll) (columns : Columns) (state : State) (halt : Option ℕ) : Type 0 where
   pub halts : halt ≡ halt_by roll columns state.batch

@@ -34,9 +34,9 @@ pub fn logs_have_columns()
     ensures { LogsHaveColumns }
 {}
 
-/// The reported ends alone decide how a batch ends, whatever the order of claims and reports. It halts at the step at
+/// Only the reported ends decide how a batch ends, whatever the order of claims and reports. It halts at the step at
 /// which too many of its hosts fail on their own. Each host has the rows of its own track up to there. Closing the
-/// batch changes the statuses of its own hosts only, each by its own failing step.
+/// batch changes only the statuses of its own hosts, each by its own failing step.
 pub fn batches_end_by_columns()
     ensures { BatchesEndByColumns }
 {}

@@ -18,7 +18,7 @@ abbrev pub is_member : List (List ℕ) → List (ℕ × ℕ) → ℕ → ℕ →
 is_member paths rows group host =
     list_any (λ row. nat_eq host row.0 && has_number group (list_at paths row.1)) rows
 
--- a path rises and ends with its own group; the groups whose paths contain a group are one run that starts at it
+-- a path rises and has no group after its own; the groups whose paths contain a group are one run, from it on
 pub record ArePreorderPaths (paths : List (List ℕ)) : Type 0 where
   pub rising : (group : ℕ) → group < length paths → IsRising (suc group) (list_at paths group)
   pub run : (above group later : ℕ) → above ≤ group → group ≤ later → later < length paths → has_number above (list_at paths later) ≡ true

@@ -7,7 +7,7 @@ use group_tree::HostId;
 /// A host that is running, failed, halted or off is down.
 #[derive(Clone, Copy, Debug, PartialEq, Eq)]
 pub enum Status {
-    /// Up, and not part of the run.
+    /// Up, and the play does not target it.
     Idle,
     /// Up, and waiting for its batch.
     Waiting,
@@ -19,7 +19,7 @@ pub enum Status {
     Halted,
     /// Down from the start.
     Off,
-    /// Up and held: it is in no batch.
+    /// Up and held: it gets no batch in this play.
     Held,
 }
 

@@ -26,7 +26,7 @@ fn listed(document: &Value) -> &[Value]
     }
 }
 
-/// Returns the plays of a document that can have at most `most`. If it has more, nothing about them is reported.
+/// Returns the plays of a document that can have at most `most`. If it has more, only that is reported.
 pub(crate) fn read_document(
     faults: &mut FaultCollector,
     document: &Value,

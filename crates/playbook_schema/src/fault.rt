@@ -34,8 +34,8 @@ pub enum PlayFault {
     TwiceHandler {
         name: String,
     },
-    /// A size of `serial` is neither an integer from 0 to 65,535 nor a percentage, or `serial` has no size or over
-    /// 64.
+    /// A size of `serial` is not an integer from 0 to 65,535, such an integer in digits, or a percentage. Or `serial`
+    /// has no size or over 64.
     #[error("no size of a batch: {at:?}")]
     BadSerial {
         at: String,
