@@ -1,4 +1,4 @@
--- The patterns of the plays that were read.
+-- The patterns of the parsed plays.
 use Rattle.std.proofs.Common.{◌≡◌, ◌==◌, ℕ, Bool, true, false, Option, None, Some, List, [], length, map, ap, inr, refl, sym, ◌∙◌, subst, arith}
 use Rattle.std.proofs.lemmas.Bool.{and_parts, eqb-true}
 use Rattle.std.proofs.lemmas.List.{nil_from_length}
@@ -25,7 +25,7 @@ looked_up (Some fleet) (Some text) false plays most told read names = subst (λ 
 looked_up (Some fleet) None silent plays most told read names = subst (λ (p : Option (List Play)). NamesTold (Some fleet) p most told) read names
 looked_up None playbook silent plays most told read names = names
 
--- of a text that is read nothing is told
+-- no error is reported of a text that is read
 pub read_told : (text : List ℕ) (most : ℕ) (plays : List Play) (told : Told) → IsReadAs 16 text plays → has_no_faults told.faults.items told.more ≡ true → AreToldOf 16 text most told
 read_told text most plays told reads silent =
     let both = and_parts (length told.faults.items == 0) (told.more == 0) silent in

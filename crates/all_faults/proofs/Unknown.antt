@@ -1,4 +1,4 @@
--- Names in patterns that name nothing, one after another.
+-- Names in patterns that match nothing, in sequence.
 use Rattle.std.proofs.Common.{◌≡◌, Bool, true, false, not, cond, List, [], ◌∷◌, ◌++◌, sym, ap, ◌∙◌}
 use Rattle.std.specs.Prelude.{filter, if◌then◌else◌}
 use Rattle.std.proofs.lemmas.List.Elements.{filter-append}
@@ -8,7 +8,7 @@ use Rattle.text_syntax.proofs.Tellings.{with_none}
 use Rattle.playbook_schema.specs.Names.{once}
 use Rattle.playbook_schema.proofs.NameLaws.{once-append}
 
--- what a test lets through of one name
+-- the result of filtering a single name
 pub filter_one : (test : Name → Bool) (x : Name) → test x ≡ true → filter test (x ∷ []) ≡ x ∷ []
 filter_one test x is = ap (λ (b : Bool). cond b (x ∷ []) []) is
 

@@ -1,4 +1,4 @@
--- The names in patterns of hosts that name nothing.
+-- The names in host patterns that match nothing.
 use Rattle.std.specs.Prelude.{◌≡◌, ℕ, ◌-◌, Option, Some, None, List, [], filter, flat_map, length, map, string_bytes, take}
 use Rattle.group_tree.specs.Names.{Name}
 use Rattle.text_syntax.specs.Patterns.{parts_of}
@@ -10,7 +10,7 @@ use Rattle.play_model.specs.declared.play.Play.{Play}
 use Rattle.playbook_schema.specs.Names.{once}
 use Rattle.all_faults.specs.declared.pattern_names.PatternsTold.{PatternsTold}
 
--- those that name nothing, each once
+-- the names that match nothing, each once
 abbrev pub unknown_among : FleetView → List Name → List Name
 unknown_among fleet names = once [] (filter (names_nothing fleet) names)
 
@@ -24,7 +24,7 @@ abbrev pub name_told : PatternFault → Option Name
 name_told (NoSuchName name) = Some (string_bytes name)
 name_told Memory = None
 
--- the first so many of the names, and how many more there are
+-- the first `most` names, and how many more there are
 pub record TellsNames (most : ℕ) (names : List Name) (told : PatternsTold) : Type 0 where
   pub first : map name_told told.faults.items ≡ map (λ name. Some name) (take most names)
   pub others : told.more ≡ length names - most

@@ -1,4 +1,4 @@
--- The faults of a playbook, and the names in its patterns that match nothing.
+-- The errors of a playbook, and the names in its patterns that match nothing.
 use Rattle.std.specs.Prelude.{◌≡◌, ℕ, Bool, true, false, Option, None, Some, List}
 use Rattle.domains.specs.FleetViews.{FleetView}
 use Rattle.play_model.specs.declared.play.Play.{Play}
@@ -8,12 +8,12 @@ use Rattle.all_faults.specs.PatternNames.{TellsNames, unknown_names}
 use Rattle.all_faults.specs.Unread.{has_no_faults}
 use Rattle.all_faults.specs.declared.pattern_names.PatternsTold.{PatternsTold}
 
--- of a playbook, if there is one
+-- the errors of a playbook, if there is one
 abbrev pub IsPlaybookPart : Option (List ℕ) → ℕ → Told → Type 0
 IsPlaybookPart None most told = has_no_faults told.faults.items told.more ≡ true
 IsPlaybookPart (Some text) most told = AreToldOf 16 text most told
 
--- the plays of a text without faults; of one with faults there are none
+-- the plays of a text without errors; a text with errors has none
 abbrev pub ArePlaysIn : List ℕ → Option (List Play) → Type 0
 ArePlaysIn text None = ⊥
 ArePlaysIn text (Some plays) = IsReadAs 16 text plays
@@ -23,7 +23,7 @@ ArePlaysOf None silent plays = plays ≡ None
 ArePlaysOf (Some text) true plays = ArePlaysIn text plays
 ArePlaysOf (Some text) false plays = plays ≡ None
 
--- the names in the patterns of plays that match nothing in the fleet, where there are both
+-- the names in the patterns of plays that match nothing in the fleet, if there are both
 abbrev pub NamesTold : Option FleetView → Option (List Play) → ℕ → PatternsTold → Type 0
 NamesTold (Some fleet) (Some plays) most told = TellsNames most (unknown_names fleet plays) told
 NamesTold (Some fleet) None most told = has_no_faults told.faults.items told.more ≡ true
@@ -35,7 +35,7 @@ pub record IsLookedUp (fleet : FleetView) (text : List ℕ) (most : ℕ) (told :
   pub reads : IsReadAs 16 text plays
   pub tells : TellsNames most (unknown_names fleet plays) told
 
--- patterns are looked up if there are a fleet and a playbook without faults
+-- patterns are checked if there are a fleet and a playbook without errors
 abbrev pub IsPatternPart : Option FleetView → Option (List ℕ) → Bool → ℕ → PatternsTold → Type 0
 IsPatternPart (Some fleet) (Some playbook) true most told = IsLookedUp fleet playbook most told
 IsPatternPart (Some fleet) (Some playbook) false most told = has_no_faults told.faults.items told.more ≡ true

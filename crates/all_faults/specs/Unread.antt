@@ -1,6 +1,6 @@
--- What is reported if nothing is wrong.
+-- What is reported if there are no errors.
 use Rattle.std.specs.Prelude.{ℕ, ◌==◌, Bool, ◌&&◌, length, List}
 
--- there is no fault, and no more of them
+-- there is no error, reported or counted
 abbrev pub has_no_faults : {Fault : Type 0} → List Fault → ℕ → Bool
 has_no_faults faults more = length faults == 0 && more == 0

@@ -1,4 +1,4 @@
-//! All that is told of an inventory and a playbook.
+//! All errors of an inventory and a playbook.
 ghost use Rattle.std.specs.Prelude.{IfOk};
 ghost use Rattle.std.specs.Option.{option_map};
 ghost use Rattle.all_faults.specs.Every.{IsEveryFault};
@@ -9,8 +9,9 @@ use crate::playbook::{pattern_part, playbook_part};
 use domains::FleetTold;
 use std::alloc::{AllocError, Global};
 
-/// The faults of an inventory's text, of the fleet that it describes, of a playbook's text, and of the patterns of its plays: of each the first, in the order in
-/// which a plan reports the first, and how many more there are. A fleet is looked at only if its inventory has no fault, and patterns only if neither file has any.
+/// The errors of an inventory's text, of its fleet, of a playbook's text, and of its host patterns. Each part has its
+/// first errors and how many more there are, in the order in which a plan reports the first. A fleet is checked only
+/// if its inventory has no error, and patterns only if neither file has any.
 #[derive(Debug, Drop)]
 pub struct EveryFault {
     pub inventory: inventory_read::Told,
@@ -19,7 +20,8 @@ pub struct EveryFault {
     pub patterns: PatternsTold,
 }
 
-/// Every fault of an inventory, and of a playbook if there is one; at most `most` of each part. Fails only if an allocation fails.
+/// Returns all errors of an inventory, and of a playbook if there is one: at most `most` of each part. Fails only if
+/// an allocation fails.
 #[tactic(auto, using(crate::proofs::Parts::looked_up))]
 pub fn list_all_faults(
     alloc: Global,

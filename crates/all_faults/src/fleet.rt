@@ -1,4 +1,4 @@
-//! The faults of an inventory, what keeps it from being a fleet, and the fleet.
+//! The errors of an inventory and of its fleet, and the fleet.
 ghost use Rattle.std.specs.Prelude.{◌≡◌, [], IfOk, option_map};
 ghost use Rattle.domains.specs.Faults.{TellsFirst, all_faults};
 ghost use Rattle.all_faults.specs.Inventories.{IsFleetIf, IsInventoryPart};
@@ -10,7 +10,8 @@ use group_tree::Tree;
 use inventory_read::{Told, inventory_or_faults};
 use std::alloc::{AllocError, Allocator, Global};
 
-/// The faults of an inventory, what keeps it from being a fleet, and the fleet if nothing does. Of a text with faults there is only the first.
+/// Returns the errors of an inventory and of its fleet, and the fleet if it is valid. If the text has errors, its
+/// fleet is not checked.
 pub(crate) fn inventory_part(
     alloc: Global,
     inventory: &[u8],
@@ -26,7 +27,7 @@ pub(crate) fn inventory_part(
     }
 }
 
-/// Of an inventory without faults.
+/// Likewise for an inventory without errors.
 fn tree_part<A: Allocator>(
     alloc: Global,
     tree: &Tree<A>,

@@ -1,4 +1,4 @@
-//! Every fault of an inventory and a playbook, where a plan of both tells the first alone.
+//! All errors of an inventory and a playbook, of which a plan reports only the first.
 #![tactic(auto)]
 
 mod every;

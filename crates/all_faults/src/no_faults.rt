@@ -1,4 +1,4 @@
-//! Parts of which nothing is told.
+//! Parts without errors.
 ghost use Rattle.std.specs.Prelude.{◌≡◌, [], true};
 ghost use Rattle.all_faults.specs.Unread.{has_no_faults};
 

@@ -1,4 +1,4 @@
-//! Names in patterns of hosts that name nothing.
+//! Names in host patterns that match nothing.
 ghost use Rattle.std.specs.Prelude.{◌≡◌, ◌+◌, ◌∷◌, ◌++◌, [], IfOk, OnOk, filter, length, map, nat_lt, not};
 ghost use Rattle.text_syntax.specs.Patterns.{parts_of};
 ghost use Rattle.text_syntax.specs.Telling.{nothing_told, with_breaches};
@@ -14,14 +14,14 @@ use std::alloc::{AllocError, Global};
 use std::marker::Model;
 use text_syntax::first_part;
 
-/// The first names in patterns of hosts that name nothing, in the order in which they stand, and how many more there are.
+/// The first names in host patterns that match nothing, in order of appearance, and how many more there are.
 #[derive(Debug, Drop)]
 pub struct PatternsTold {
     pub faults: Vec<PatternFault>,
     pub more: usize,
 }
 
-/// Keeps the first names. Those after them are counted.
+/// Stores the first names and counts those after them.
 #[derive(Drop)]
 struct NameCollector {
     alloc: Global,
@@ -73,7 +73,7 @@ impl NameCollector {
     fn count(&mut self) -> Result<(), AllocError>
         ensures { OnOk result (self.new ≡ record self.old { more = self.old.more + 1 }) }
     {
-        // No memory holds so many names.
+        // No memory holds that many names.
         self.more = self.more.checked_add(1).ok_or(AllocError)?;
         Ok(())
     }
@@ -112,7 +112,7 @@ fn names_something(fleet: &Fleet, name: &str) -> bool
     }
 }
 
-/// Adds a name that names nothing and is none of those before; from then on it is one of them.
+/// Adds a name that matches nothing unless `before` contains it, and adds it to `before`.
 fn add_part<'a>(
     told: &mut NameCollector,
     fleet: &Fleet,
@@ -133,7 +133,7 @@ fn add_part<'a>(
     Ok(())
 }
 
-/// Adds the names in a pattern that name nothing, each once.
+/// Adds the names in a pattern that match nothing, each once.
 fn add_pattern(told: &mut NameCollector, fleet: &Fleet, pattern: &str) -> Result<(), AllocError>
     ensures { OnOk result (told.new ≡ with_breaches told.old (spec.unknown_among fleet.now (parts_of pattern.now))) }
 {
@@ -146,8 +146,8 @@ fn add_pattern(told: &mut NameCollector, fleet: &Fleet, pattern: &str) -> Result
     Ok(())
 }
 
-/// The first `most` names in the plays' patterns that name neither a group nor a host of the fleet, play by play and in the
-/// order in which they stand, each once a play, and how many more there are. It fails for want of memory alone.
+/// Returns the first `most` names in the plays' patterns that match nothing in the fleet, and how many more there
+/// are. They are in order of plays and of appearance, each once per play. Fails only if an allocation fails.
 pub(crate) fn pattern_faults(
     alloc: Global,
     fleet: &Fleet,

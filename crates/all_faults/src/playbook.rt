@@ -1,4 +1,4 @@
-//! The faults of a playbook, its plays, and the names in their patterns that match nothing.
+//! The errors of a playbook, its plays, and the names in their patterns that match nothing.
 ghost use Rattle.std.specs.Prelude.{◌≡◌, IfOk, option_map};
 ghost use Rattle.all_faults.specs.Playbooks.{ArePlaysOf, IsPlaybookPart, NamesTold};
 ghost use Rattle.all_faults.specs.Unread.{has_no_faults};
@@ -11,7 +11,7 @@ use play_read::plays_or_faults;
 use playbook_schema::Told;
 use std::alloc::{AllocError, Global};
 
-/// The faults of a playbook, if there is one, and its plays if it has none.
+/// Returns the errors of a playbook, if there is one, and its plays if it has none.
 pub(crate) fn playbook_part(
     alloc: Global,
     playbook: Option<&[u8]>,
@@ -30,7 +30,7 @@ pub(crate) fn playbook_part(
     }
 }
 
-/// The names of the plays' patterns that match nothing, if there are a fleet and plays.
+/// Returns the names in the plays' patterns that match nothing, if there are a fleet and plays.
 pub(crate) fn pattern_part(
     alloc: Global,
     fleet: &Option<Fleet>,

@@ -1,4 +1,4 @@
--- What the planner found by the counts, said of the statuses that these are counts of.
+-- What the planner found by the counts holds for the statuses that they count.
 use Rattle.std.proofs.Common.{◌≡◌, ℕ, ◌<◌, true, false, Some, Option, IfSome, List, map, length, sym, ap, ◌∙◌, subst, arith}
 use Rattle.std.specs.List.{range_with_len}
 use Rattle.std.proofs.lemmas.List.{length-map}

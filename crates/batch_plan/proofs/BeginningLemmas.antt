@@ -1,4 +1,4 @@
--- Statuses after hosts were named, one after the other, and those with which a play begins.
+-- Statuses after hosts are named in turn, and those at the start of a play.
 use Rattle.std.proofs.Common.{◌≡◌, ℕ, ◌+◌, ◌≤◌, ◌<◌, Bool, true, false, cond, map, List, [], length, get_or, set, take, sym, ap, ◌∙◌, refl, subst, arith, inl, inr, ◌⊎◌}
 use Rattle.std.specs.List.{range_with_len}
 use Rattle.std.proofs.lemmas.Bool.{cases_lt}
@@ -21,7 +21,7 @@ use Rattle.fleet_states.proofs.StartLemmas.{length-start_statuses, starts_at_res
 use Rattle.batch_plan.specs.Beginnings.{IsReady, restart_status, restart_statuses}
 use Rattle.batch_plan.specs.Inside.{awaited}
 
--- one more host has changed, by a change that may be made twice
+-- one more host has changed, by a change that can be applied twice
 pub changed_again : (change : Status → Status) → ((s : Status) → change (change s) ≡ change s) → (hosts : List ℕ) (i : ℕ) → i < length hosts
     → (statuses : List Status) (status : Status) → get_or hosts i 0 < length statuses
     → status ≡ change (status_at (changed change (take i hosts) statuses) (get_or hosts i 0))
@@ -37,12 +37,12 @@ changed_again change again hosts i within statuses status inside is =
     either true = again was
     either false = refl
 
--- one more host that is not there
+-- one more host that does not exist
 pub changed_past : (change : Status → Status) (hosts : List ℕ) (i : ℕ) → i < length hosts → (statuses : List Status) → length statuses ≤ get_or hosts i 0
     → changed change (take i hosts) statuses ≡ changed change (take (i + 1) hosts) statuses
 changed_past change hosts i within statuses = given_past (λ host. change (status_at statuses host)) hosts i within statuses
 
--- the same of hosts as the code reads them, whether the host is there or not
+-- likewise for hosts as the code reads them, whether the host exists or not
 module _ (change : Status → Status) (again : (s : Status) → change (change s) ≡ change s) (hosts : List HostId) (i : ℕ) (d : HostId) (within : i < length hosts) (statuses : List Status) where
   abbrev after : ℕ → List Status
   after k = changed change (take k (host_numbers hosts)) statuses
@@ -137,7 +137,7 @@ start_ready fleet sound target =
       safe = starts_safe fleet sound target;
     }
 
--- a later play's statuses
+-- the statuses of a later play
 module _ (statuses : List Status) (target : List ℕ) where
   pub length-restart_statuses : length (restart_statuses statuses target) ≡ length statuses
   length-restart_statuses = length-map-range_with_len (λ host. restart_status (status_at statuses host) (has_number host target)) 0 (length statuses)

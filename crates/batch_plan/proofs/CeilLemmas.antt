@@ -33,7 +33,7 @@ ceil_within w r k some within =
     let times : div_ceil w r * r ≤ k * r = mul-le-mul_right r within in
     omega (arith, times, ceil_enough w r some)
 
--- at most `r` of each `k` places: the part of a run that a batch takes is within the room
+-- at most `r` of each `k` positions: a batch's share of a run is within the room
 pub share_within : (m w k r : ℕ) → 0 < k → m * k ≤ w + (k - 1) → w ≤ k * r → m ≤ r
 share_within m w k r some share enough = by_case (cases_lt r m)
   where

@@ -1,4 +1,4 @@
--- One host's change of place, counted in one of the trees.
+-- A change of what one host counts as, in one of the trees.
 use Rattle.std.proofs.Common.{◌≡◌, ℕ, zero, suc, ◌+◌, ◌-◌, ◌≤◌, ◌<◌, Bool, true, false, ◌&&◌, cond, nat_eq, List, [], ◌∷◌, ◌++◌, map}
 use Rattle.std.proofs.Common.{length, get_or, set, take, drop, sym, ap, ◌∙◌, refl, subst, arith}
 use Rattle.std.proofs.lemmas.Bool.{ne_eqb, eq-eqb}
@@ -29,7 +29,7 @@ recounted_none was is (node ∷ nodes) =
     let here : recounted_along [] was is node ≡ node = ap (λ b. cond b (recounted was is node) node) (begins_nothing node) in
     ap (λ (n : Node). n ∷ nodes) (sym here) ∙ ap (λ (l : List Node). recounted_along [] was is node ∷ l) (recounted_none was is nodes)
 
--- a count of hosts, one of which passed before and now does or doesn't
+-- a count of hosts, one of which passed before and passes now or not
 abbrev moved : Bool → Bool → ℕ → ℕ
 moved before after count = (count - bit before) + bit after
 
@@ -41,7 +41,7 @@ tops_long (tree ∷ trees) (suc i) l =
     omega (arith, rest)
 
 module _ (group : ℕ) (inner : List ℕ) (was is : Place) where
-  -- a node, and nodes, once the change is counted on the chain
+  -- a node, and nodes, after the change is counted on the chain
   abbrev recount_node : Node → Node
   recount_node = recounted_along (group ∷ inner) was is
 
@@ -114,7 +114,7 @@ module _ (group : ℕ) (inner : List ℕ) (was is : Place) where
         ap (λ g. map (under g) changed.below) groups ∙ ap (map within) below ∙ changed_below tree.below in
         ap (λ (n : Node). n ∷ map (under changed.group) changed.below) (own ∙ sym on) ∙ ap (λ (l : List Node). recount_node top ∷ l) lower
 
-  -- the other trees rise apart from it
+  -- the other trees ascend apart from it
   pub changed_at : (low : ℕ) (trees : List Subtree) (place : ℕ) (changed d : Subtree) → RiseFrom low (tops_of trees) → place < length trees
       → get_or (tops_of trees) place 0 ≡ group → nodes_of changed ≡ recount (nodes_of (get_or trees place d))
       → side_by_side (set trees place changed) ≡ recount (side_by_side trees)
@@ -167,7 +167,7 @@ at_tree trees group place d at =
     let within : place < length trees = omega (arith, at.within, length-map trees (λ (tree : Subtree). tree.group)) in
     (within, sym (get_or-map (λ (tree : Subtree). tree.group) trees place d 0 within) ∙ at.here)
 
--- what is asked of all the counts, asked of the chain's first tree
+-- the condition on all the counts, for the chain's first tree
 pub tree_leaves : (chain : List GroupId) (was : Place) (trees : List Subtree) (place : ℕ) (tree d : Subtree) → 1 ≤ length chain
     → IsAt (tops_of trees) (first_of chain) place → Allow (group_numbers chain) was (side_by_side trees) → tree ≡ get_or trees place d
     → Leaves was tree.waiting tree.down × Allow (inner_of chain) was tree.below
@@ -178,7 +178,7 @@ tree_leaves chain was trees place tree d long at all is =
     let left = leaves (first_of chain) (inner_of chain) was (get_or trees place d) here.1 parts.0 in
     subst (λ (t : Subtree). Leaves was t.waiting t.down × Allow (inner_of chain) was t.below) (sym is) (left, parts.1)
 
--- what is done to the chain's first tree, seen on all nodes
+-- the change of the chain's first tree, for all nodes
 pub tree_changed : (chain : List GroupId) (was is : Place) (trees : List Subtree) (place : ℕ) (tree changed d : Subtree) → 1 ≤ length chain
     → RiseFrom 0 (groups_in (side_by_side trees)) → IsAt (tops_of trees) (first_of chain) place → tree ≡ get_or trees place d → changed.group ≡ tree.group
     → changed.waiting ≡ moved (waits was) (waits is) tree.waiting → changed.down ≡ moved (is_down was) (is_down is) tree.down

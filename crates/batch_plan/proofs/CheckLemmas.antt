@@ -1,4 +1,4 @@
--- Batches that are tested one by one.
+-- Batches checked one by one.
 use Rattle.std.proofs.Common.{◌≡◌, ℕ, ◌+◌, ◌<◌, Bool, true, false, List, [], length, get_or, take, sym, ap, ◌∙◌}
 use Rattle.std.specs.List.{list_all}
 use Rattle.std.proofs.lemmas.Bool.{and_from}
@@ -8,7 +8,7 @@ all_more : {X : Type 0} (p : X → Bool) (xs : List X) (i : ℕ) (d : X) → i <
 all_more p xs i d within before here =
     list_all_more p xs i d within ∙ and_from (list_all p (take i xs)) (p (get_or xs i d)) before here
 
--- the batch at a place, as it is lent
+-- the batch at an index, as borrowed
 module _ (batches : List (List ℕ)) (i : ℕ) (within : i < length batches) (batch : List ℕ) (at : batch ≡ get_or batches i []) where
   pub batch_fails : (p : List ℕ → Bool) → p batch ≡ false → list_all p batches ≡ false
   batch_fails p fails = list_all_at p batches i [] within (ap p (sym at) ∙ fails)

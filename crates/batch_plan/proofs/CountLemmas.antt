@@ -11,7 +11,7 @@ use Rattle.fleet_states.specs.Statuses.{are_distinct, is_waiting, status_at, wai
 use Rattle.fleet_states.proofs.CountLemmas.{bit, count_by-cons, count_le, count_some}
 use Rattle.batch_plan.specs.Plans.{times_in}
 
--- a sum of sums may be taken in either order
+-- a sum of sums can be taken in either order
 pub sum_of_sums : {X Y : Type 0} (f : X → Y → ℕ) (xs : List X) (ys : List Y) → sum_by (λ x. sum_by (f x) ys) xs ≡ sum_by (λ y. sum_by (λ x. f x y) xs) ys
 sum_of_sums f [] ys = sym (zeros ys)
   where
@@ -43,17 +43,17 @@ sum_of_map g f [] = refl
 sum_of_map g f (x ∷ xs) =
     sum_by-cons g (f x) (map f xs) ∙ ap (λ n. g (f x) + n) (sum_of_map g f xs) ∙ sym (sum_by-cons (λ x. g (f x)) x xs)
 
--- the waiting hosts of all, and those among all numbers
+-- all waiting hosts, and those among all numbers
 pub total_is : (statuses : List Status) → count_by is_waiting statuses ≡ waiting_count statuses (range_with_len 0 (length statuses))
 total_is statuses =
     ap (count_by is_waiting) (fill_by_all (status_at statuses) statuses (length statuses) Idle refl (λ k l. refl))
     ∙ sum_of_map (λ status. bit (is_waiting status)) (status_at statuses) (range_with_len 0 (length statuses))
 
--- a number that stands in a list is counted
+-- a number in a list is counted
 pub counted_here : (n : ℕ) (xs : List ℕ) → has_number n xs ≡ true → 0 < count_by (nat_eq n) xs
 counted_here n xs here = count_some (nat_eq n) n xs here (eq-eqb n n refl)
 
--- numbers of which each is counted once at most are distinct
+-- numbers that are each counted at most once are distinct
 pub distinct_counted : (xs : List ℕ) → ((n : ℕ) → count_by (nat_eq n) xs ≤ 1) → are_distinct xs ≡ true
 distinct_counted [] once = refl
 distinct_counted (x ∷ xs) once =
@@ -64,7 +64,7 @@ distinct_counted (x ∷ xs) once =
         let own : bit (nat_eq x x) ≡ 1 = ap bit (eq-eqb x x refl) in
         omega (arith, once x, count_by-cons (nat_eq x) x xs, own, counted_here x xs here)
 
--- a number that does not stand in the list is counted 0 times
+-- a number that is not in the list is counted 0 times
 pub count_absent : (n : ℕ) (xs : List ℕ) → has_number n xs ≡ false → count_by (nat_eq n) xs ≡ 0
 count_absent n [] none = refl
 count_absent n (x ∷ xs) none =
@@ -72,7 +72,7 @@ count_absent n (x ∷ xs) none =
     let here : bit (nat_eq n x) ≡ 0 = ap bit both.0 in
     omega (arith, count_by-cons (nat_eq n) x xs, here, count_absent n xs both.1)
 
--- a host that stands in the batches stands in one of them
+-- a host in the batches is in one of them
 pub stands_somewhere : (host : ℕ) (batches : List (List ℕ)) → 0 < times_in batches host → 1 ≤ sum_by (λ batch. bit (has_number host batch)) batches
 stands_somewhere host [] times = absurd (omega arith)
 stands_somewhere host (batch ∷ batches) times =
@@ -93,7 +93,7 @@ stands_somewhere host (batch ∷ batches) times =
         let none : count_by (nat_eq host) batch ≡ 0 = count_absent host batch e in
         omega (arith, first, later (omega (arith, times, all)))
 
--- of distinct numbers at most one is equal to a number
+-- of distinct numbers, at most one equals a number
 pub count_one : (q : ℕ → Bool) (x : ℕ) (ys : List ℕ) → are_distinct ys ≡ true → count_by (λ y. nat_eq y x && q y) ys ≤ bit (q x)
 count_one q x [] distinct = omega arith
 count_one q x (y ∷ ys) distinct =
@@ -119,7 +119,7 @@ count_one q x (y ∷ ys) distinct =
         let here : bit (nat_eq y x && q y) ≡ 0 = ap (λ b. bit (b && q y)) (ne_eqb y x d) in
         omega (arith, first, rest)
 
--- distinct numbers of a list that pass are at most as many as the list has that pass
+-- the distinct numbers in a list that pass are at most as many as the list has that pass
 pub count_among : (q : ℕ → Bool) (xs ys : List ℕ) → are_distinct ys ≡ true → count_by (λ y. has_number y xs && q y) ys ≤ count_by q xs
 count_among q [] ys distinct = omega (arith, none ys)
   where
@@ -142,7 +142,7 @@ count_among q (x ∷ xs) ys distinct =
         let c = count_by-cons (λ y. has_number y xs && q y) y ys in
         omega (arith, a, b, c, here (nat_eq y x) (has_number y xs) (q y), split ys)
 
--- the same without a test
+-- likewise without a test
 pub count_within : (xs ys : List ℕ) → are_distinct ys ≡ true → count_by (λ y. has_number y xs) ys ≤ length xs
 count_within xs ys distinct =
     omega (arith, count_le (λ y. has_number y xs) (λ y. has_number y xs && true) (λ y. kept (has_number y xs)) ys, count_among (λ y. true) xs ys distinct, all xs)

@@ -1,4 +1,4 @@
--- Needs and waiting hosts by the counts, and by the statuses that these are counts of.
+-- Needs and waiting hosts by the counts, and by the statuses that they count.
 use Rattle.std.proofs.Common.{◌≡◌, ℕ, ◌+◌, ◌-◌, ◌≤◌, ◌<◌, Bool, None, Some, Option, List, [], ◌∷◌, ◌++◌, cond}
 use Rattle.std.proofs.Common.{take, map, filter, length, get_or, option_map, set, sym, ap, ◌∙◌, refl, arith, inl, inr, ◌⊎◌}
 use Rattle.std.specs.List.{range_with_len}
@@ -62,7 +62,7 @@ pub all_places : (places : List Place) (statuses : List Status) → length place
 all_places places statuses long at =
     ext_get_or Up places (map place_of statuses) (long ∙ sym (length-map statuses place_of)) (λ k l. at k (omega (arith, l, long)) ∙ sym (place_of_status statuses k))
 
--- one more host's place is set
+-- one more host is set
 pub set_more : (places : List Place) (statuses : List Status) (host : ℕ) (place : Place) → length places ≡ length statuses → host < length statuses
     → place ≡ place_of (status_at statuses host) → ((earlier : ℕ) → earlier < host → place_at places earlier ≡ place_of (status_at statuses earlier)) → (earlier : ℕ)
     → earlier < host + 1 → place_at (set places host place) earlier ≡ place_of (status_at statuses earlier)
@@ -112,7 +112,7 @@ module _ (statuses : List Status) (counted : Counted) (are : AreCountsOf statuse
   order_is =
       filter_agree (λ host. counts.waits (place_at counted.places host)) (λ host. is_waiting (status_at statuses host)) waits_at counted.fleet.order
 
--- as many hosts wait in the order in which they are dealt as wait at all
+-- as many hosts wait in deal order as wait in total
 pub order_total : (fleet : FleetView) (statuses : List Status) → IsSound fleet → length statuses ≡ length fleet.hosts → length (waiting_in_order statuses fleet.order) ≡ total_waiting statuses
 order_total fleet statuses sound all =
     let hosts : List ℕ = range_with_len 0 (length fleet.hosts) in

@@ -11,7 +11,7 @@ use Rattle.fleet_states.proofs.NumberLemmas.{range_more}
 use Rattle.batch_plan.specs.Deals.{dealt, dealt_to}
 use Rattle.batch_plan.proofs.CountLemmas.{sum_of_map, sum_same}
 
--- what passes of a batch
+-- how many of a batch pass
 pub count_dealt : (p : ℕ → Bool) (count batch place host : ℕ) (hosts : List ℕ)
     → count_by p (dealt_to count batch place (host ∷ hosts)) ≡ bit (nat_eq (place % count) batch && p host) + count_by p (dealt_to count batch (place + 1) hosts)
 count_dealt p count batch place host hosts = by_bool (nat_eq (place % count) batch)
@@ -20,7 +20,7 @@ count_dealt p count batch place host hosts = by_bool (nat_eq (place % count) bat
     by_bool true = count_by-cons p host (dealt_to count batch (place + 1) hosts)
     by_bool false = omega arith
 
--- of all numbers below a bound one is equal to a number
+-- of all numbers below a bound, one equals a number
 module _ (k : ℕ) (c : Bool) where
   abbrev pub hits : ℕ → ℕ
   hits n = sum_by (λ b. bit (nat_eq k b && c)) (range_with_len 0 n)
@@ -81,7 +81,7 @@ pub get_or-dealt : (hosts : List ℕ) (count batch : ℕ) (d : List ℕ) → bat
 get_or-dealt hosts count batch d within =
     get_or-map-range_with_len (λ batch. dealt_to count batch 0 hosts) 0 count batch batch d within (omega arith)
 
--- among so many places in a row no two leave the same number when divided by it
+-- among `count` successive positions, no two have the same remainder
 module _ (count : ℕ) (some : 0 < count) where
   small : (n : ℕ) → n < count → n % count ≡ n
   small n l = ap (λ m. m % count) (omega arith) ∙ mod-mul-add 0 count n l
@@ -112,7 +112,7 @@ module _ (count : ℕ) (some : 0 < count) where
           let own : (batch + 1 + j) % count ≡ rest = ap (λ n. n % count) is ∙ turn rest ∙ small rest (omega (arith, below, l)) in
           omega (arith, own, e, below)
 
-  -- a whole turn of places leaves the same numbers
+  -- after `count` positions, the remainders repeat
   dealt_turn : (batch place : ℕ) (hosts : List ℕ) → dealt_to count batch (place + count) hosts ≡ dealt_to count batch place hosts
   dealt_turn batch place [] = refl
   dealt_turn batch place (host ∷ hosts) =
@@ -121,7 +121,7 @@ module _ (count : ℕ) (some : 0 < count) where
       ap (λ n. cond (nat_eq n batch) (host ∷ dealt_to count batch (place + count + 1) hosts) (dealt_to count batch (place + count + 1) hosts)) (turn place)
       ∙ ap (λ (l : List ℕ). cond (nat_eq (place % count) batch) (host ∷ l) l) rest
 
--- hosts at places that leave other numbers are passed over
+-- hosts at positions with other remainders are skipped
 dealt_past : (count batch gap place : ℕ) (hosts : List ℕ) → ((j : ℕ) → j < gap → (place + j) % count ≡ batch → ⊥)
     → dealt_to count batch place hosts ≡ dealt_to count batch (place + gap) (drop gap hosts)
 dealt_past count batch zero place hosts other = ap (λ n. dealt_to count batch n hosts) (omega arith)
@@ -133,13 +133,13 @@ dealt_past count batch (suc gap) place (host ∷ hosts) other =
     ∙ dealt_past count batch gap (place + 1) hosts later
     ∙ ap (λ n. dealt_to count batch n (drop gap hosts)) (omega arith)
 
--- the first host of a batch has the place of the batch's number
+-- the first host of a batch is at the position with the batch's number
 pub dealt_first : (count batch : ℕ) (hosts : List ℕ) → batch < count → dealt_to count batch 0 hosts ≡ dealt_to count batch batch (drop batch hosts)
 dealt_first count batch hosts l =
     dealt_past count batch batch 0 hosts (λ j m. other_before count (omega (arith, l)) batch j l m)
     ∙ ap (λ n. dealt_to count batch n (drop batch hosts)) (omega arith)
 
--- and each next one is behind as many places as there are batches
+-- and each further one is as many positions later as there are batches
 pub dealt_next : (count batch host : ℕ) (hosts : List ℕ) → batch < count
     → dealt_to count batch batch (host ∷ hosts) ≡ host ∷ dealt_to count batch batch (drop (count - 1) hosts)
 dealt_next count batch host hosts l =
@@ -152,7 +152,7 @@ dealt_next count batch host hosts l =
     ∙ ap (λ n. dealt_to count batch n (drop (count - 1) hosts)) far
     ∙ dealt_turn count some batch batch (drop (count - 1) hosts))
 
--- one more host of the batch stands at this place; the next is behind a whole turn, or there is none
+-- one more host of the batch is at this position; the next is `count` positions later, or there is none
 pub dealt_at : (count batch place next : ℕ) (hosts : List ℕ) → batch < count → place < length hosts → (next ≡ place + count) ⊎ ((length hosts ≤ next) × (next ≤ place + count))
     → dealt_to count batch batch (drop place hosts) ≡ get_or hosts place 0 ∷ dealt_to count batch batch (drop next hosts)
 dealt_at count batch place next hosts l inside is =

@@ -1,4 +1,4 @@
--- The tests of a plan pass exactly for a plan.
+-- The checks of a plan pass exactly for a valid plan.
 use Rattle.std.proofs.Common.{◌≡◌, ℕ, ◌≤◌, ◌<◌, Bool, true, false, ◌&&◌, not, nat_eq, nat_lt, cond, None, Option, List, [], ◌∷◌, length, get_or, sym, ap, ◌∙◌, refl, arith, inl, inr, ◌⊎◌}
 use Rattle.std.specs.List.{count_by, list_all}
 use Rattle.std.proofs.lemmas.Bool.{and_parts, and_from, cases_lt, lt-ltb, ltb-true, not-true, not_from_false, both_ways, false_from_ne_true, eq-eqb}

@@ -17,7 +17,7 @@ use Rattle.batch_plan.proofs.LeastLemmas.{blocked_none}
 use Rattle.batch_plan.proofs.NamingLemmas.{forced_inside, named_bound, one_host}
 use Rattle.batch_plan.proofs.PlannedLemmas.{dealt_plan, least_plan}
 
--- the first number below the end that passes, where one does
+-- the first number below the end that passes, if one does
 first_of : (test : ℕ → Bool) (end : ℕ) → ((k : ℕ) → k < end → test k ≡ false) ⊎ ((k : ℕ) × (k < end) × (test k ≡ true) × ((earlier : ℕ) → earlier < k → test earlier ≡ false))
 first_of test zero = inl (λ k l. absurd (omega (arith, l)))
 first_of test (suc end) = by_case (first_of test end) (test end) refl
@@ -32,7 +32,7 @@ first_of test (suc end) = by_case (first_of test end) (test end) refl
         at_end k l (inl e) = ap test e ∙ is
         at_end k l (inr d) = none k (omega (arith, l, d))
 
--- how many batches a need forces, and 0 where nobody waits or nobody may go
+-- how many batches a need forces, or 0 if no host waits or none can go down
 abbrev HasCount : Need → Type 0
 HasCount need =
     (count : ℕ) × (0 < count → IsForced (Some need) need.waiting need.room count) × ((waiting room number : ℕ) → IsForced (Some need) waiting room number → number ≡ count)
@@ -99,7 +99,7 @@ module _ (needs : Needs) where
         },
       )
 
-  -- the bound of a need that stands at a place
+  -- the bound of a need at a position
   of_need : (place : ℕ) (need : Option Need) (bound : ℕ → ℕ → Bound) → ((waiting room : ℕ) → rank needs (bound waiting room) ≡ place)
       → ((waiting room number : ℕ) → IsForced need waiting room number → Forces needs number (bound waiting room))
       → ((other : Bound) (number : ℕ) → rank needs other ≡ place → Forces needs number other → (waiting : ℕ) × (room : ℕ) × IsForced need waiting room number)

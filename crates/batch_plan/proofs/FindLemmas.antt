@@ -1,4 +1,4 @@
--- Where a group stands among trees that rise.
+-- The position of a group among trees in ascending order.
 use Rattle.std.proofs.Common.{◌≡◌, ℕ, zero, suc, ◌+◌, ◌≤◌, ◌<◌, true, false, ◌||◌, nat_eq, List, [], ◌∷◌, ◌++◌, map, length, get_or, sym, ap, ◌∙◌, refl, subst}
 use Rattle.std.proofs.Common.{arith, Result, Ok, Err, MatchResult, Option, Some, None, MatchOption}
 use Rattle.std.specs.List.{list_any}
@@ -84,7 +84,7 @@ list_any-under group top tree [] = refl
 list_any-under group top tree (node ∷ nodes) =
     ap (λ b. counts_as group tree node || b) (list_any-under group top tree nodes)
 
--- what is counted below one of the trees is counted among them
+-- a group counted below one of the trees is counted among them
 pub found_below : (trees : List Subtree) (place group : ℕ) (d tree : Subtree) → place < length trees
     → IsCountedIn (get_or trees place d).below group tree → IsCountedIn (side_by_side trees) group tree
 found_below [] place group d tree within found = absurd (omega arith)

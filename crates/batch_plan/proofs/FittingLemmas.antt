@@ -1,4 +1,4 @@
--- Batches that fit into the places of their groups keep the room of each group, and the other way round.
+-- Batches fit into the room of each group's chains exactly if they respect the room of each group.
 use Rattle.std.proofs.Common.{◌≡◌, ℕ, ◌+◌, ◌-◌, ◌≤◌, ◌<◌, Bool, true, false, ◌&&◌, not, nat_lt, None, Some, Option}
 use Rattle.std.proofs.Common.{List, [], ◌∷◌, length, get_or, is_some, option_map, sym, ap, ◌∙◌, refl, subst, arith, inl, inr, ◌⊎◌}
 use Rattle.std.specs.List.{count_by, list_all}
@@ -93,7 +93,7 @@ module _ (fleet : FleetView) (sound : IsSound fleet) (statuses : List Status) wh
   keep_is batches false to from =
       sym (false_from_ne_true (list_all (keep_room statuses batches) (groups_of fleet)) (λ keep. both_ways false refl (from (fits_places batches keep))))
 
--- what holds below a place and at it holds below the next
+-- what holds below an index and at it holds below the next
 pub holds_more : (P : ℕ → Type 0) (i : ℕ) → ((k : ℕ) → k < i → P k) → P i → (k : ℕ) → k < i + 1 → P k
 holds_more P i before here k less = by_case (cases_eq k i)
   where
@@ -101,7 +101,7 @@ holds_more P i before here k less = by_case (cases_eq k i)
     by_case (inl e) = subst P (sym e) here
     by_case (inr d) = before k (omega (arith, less, d))
 
--- hosts that wait are hosts of the fleet
+-- waiting hosts are hosts of the fleet
 pub known_hosts : (statuses : List Status) (bound : ℕ) (hosts : List ℕ) → length statuses ≡ bound → list_all (λ host. is_waiting (status_at statuses host)) hosts ≡ true → are_below bound hosts ≡ true
 known_hosts statuses bound [] long wait = refl
 known_hosts statuses bound (host ∷ hosts) long wait =

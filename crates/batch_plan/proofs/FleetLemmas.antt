@@ -1,4 +1,4 @@
--- The nodes of a fleet, as its hosts' places change.
+-- The nodes of a fleet, as its hosts change.
 use Rattle.std.proofs.Common.{Option, ◌≡◌, ℕ, ◌+◌, ◌-◌, ◌≤◌, ◌<◌, Bool, true, false, ◌||◌, ◌&&◌, not, cond, nat_lt, List, [], map, length}
 use Rattle.std.proofs.Common.{get_or, set, replicate, sym, ap, ◌∙◌, refl, subst, arith, inl, inr, ◌⊎◌}
 use Rattle.std.specs.List.{list_all}
@@ -59,7 +59,7 @@ module _ (counted : Counted) (sound : IsSound counted.fleet) where
   abbrev place_of : ℕ → Place
   place_of host = place_at counted.places host
 
-  -- a host of this place can leave the group's counts
+  -- a host of this kind can leave the group's counts
   abbrev can_leave : Place → ℕ → Bool
   can_leave was group =
       not (nat_lt (waiting_in counted group) (bit (waits was))) && not (nat_lt (down_in counted group) (bit (is_down was)))
@@ -87,7 +87,7 @@ module _ (counted : Counted) (sound : IsSound counted.fleet) where
   below_of : (top group : ℕ) → IsInSubtree counted.fleet.parents top group → IsBelow counted.fleet.parents top group
   below_of top group at = at.parent_there
 
-  -- a group's path leads down a host's chain where the host is a member
+  -- a group's path is a prefix of a host's chain if the host is a member
   path_leads : (host group : ℕ) → host < length counted.fleet.hosts → is_limited counted.fleet.limits group ≡ true
       → begins (path_of (node_at counted group)) (chain_of host) ≡ is_in host group
   path_leads host group within limited =
@@ -123,18 +123,18 @@ module _ (counted : Counted) (sound : IsSound counted.fleet) where
     abbrev recounted_if : Bool → ℕ → Node
     recounted_if b group = cond b (recounted (place_of host) is (node_at counted group)) (node_at counted group)
 
-    -- the counts of a group once the host has moved
+    -- the counts of a group after the host has changed
     abbrev new_waiting : ℕ → ℕ
     new_waiting group = waiting_in (moved counted host is) group
 
     abbrev new_down : ℕ → ℕ
     new_down group = down_in (moved counted host is) group
 
-    -- a count that a member left for one that it joins
+    -- a count that a member left, against one that it joins
     abbrev Balances : Bool → ℕ → ℕ → Bool → Bool → Type 0
     Balances member new old left joined = new + cond member (bit left) 0 ≡ old + cond member (bit joined) 0
 
-    -- a limited group's node is counted anew where the host is a member
+    -- a limited group's node is recounted if the host is a member
     node_moved : (group : ℕ) → is_limited counted.fleet.limits group ≡ true
         → recounted_along (chain_of host) (place_of host) is (node_at counted group) ≡ node_at (moved counted host is) group
     node_moved group limited =
@@ -186,7 +186,7 @@ module _ (counted : Counted) (sound : IsSound counted.fleet) where
               let some_down = count_at (λ x. is_down (place_of x)) host (members group) e in
               and_from _ _ (not_from_false _ (le-ltb _ _ some_wait)) (not_from_false _ (le-ltb _ _ some_down))
 
--- what is asked of the trees, and what is kept of them
+-- the requirements of the trees, and what they preserve
 module _ (counted : Counted) (tops : List Subtree) (is : IsCounted counted tops) where
   pub tops_rising : RiseFrom 0 (groups_in (side_by_side tops))
   tops_rising = subst (λ (nodes : List Node). RiseFrom 0 (groups_in nodes)) (sym is.nodes) (nodes_rise counted)

@@ -1,4 +1,4 @@
--- Counts are told the hosts whose status has changed.
+-- The counts are updated for the hosts with changed statuses.
 use Rattle.std.proofs.Common.{◌≡◌, ◌∙◌, ℕ, ◌≤◌, ◌<◌, ◌||◌, List, [], ◌∷◌, length, sym, ap, set, refl, subst, arith, inl, inr, ◌⊎◌}
 use Rattle.std.proofs.lemmas.Bool.{cases_eq, cases_lt, ne_eqb}
 use Rattle.std.proofs.lemmas.List.{ext_get_or, length-set, map-set}
@@ -19,7 +19,7 @@ one_host statuses counted host status are = record {
   places = ap (λ (places : List Place). set places host (place_of status)) are.places ∙ sym (map-set place_of statuses host status);
 }
 
--- a host that has its later status already differs no more
+-- a host that already has its later status no longer differs
 same_but : (statuses later : List Status) (host : ℕ) (hosts : List ℕ) → length later ≡ length statuses → AreSameBut (host ∷ hosts) statuses later
     → AreSameBut hosts (set statuses host (status_at later host)) later
 same_but statuses later host hosts long same other apart = by_case (cases_eq other host)

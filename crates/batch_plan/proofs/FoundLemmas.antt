@@ -1,4 +1,4 @@
--- The counts that are found in the trees are those of the group.
+-- The counts found in the trees are those of the group.
 use Rattle.std.proofs.Common.{Option, ◌≡◌, ℕ, ◌≤◌, ◌<◌, Bool, true, false, ◌&&◌, nat_eq, is_some, None, List, [], ◌∷◌, map, length}
 use Rattle.std.proofs.Common.{get_or, sym, ap, ◌∙◌, refl, arith, inl, inr, ◌⊎◌}
 use Rattle.std.specs.List.{list_any}

@@ -1,4 +1,4 @@
--- The tree of a fleet's limited groups, grown in preorder.
+-- The tree of a fleet's limited groups, built in preorder.
 use Rattle.std.proofs.Common.{◌≡◌, ℕ, ◌+◌, ◌≤◌, ◌<◌, Bool, true, false, ◌&&◌, Some, None, List, [], ◌∷◌, ◌++◌, map, length, get_or, take, replicate, sym, ap}
 use Rattle.std.proofs.Common.{◌∙◌, refl, arith, add-one, length-append}
 use Rattle.std.proofs.lemmas.List.{map-append, append-nil, length-replicate}

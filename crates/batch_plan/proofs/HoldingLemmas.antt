@@ -1,4 +1,4 @@
--- Hosts that are held back, and what is left of a fleet once they are set aside.
+-- Held hosts, and the rest of a fleet once they are held.
 use Rattle.std.proofs.Common.{◌≡◌, ℕ, ◌-◌, ◌≤◌, ◌<◌, Bool, true, false, ◌&&◌, cond, map, nat_eq, nat_lt, None, Some}
 use Rattle.std.proofs.Common.{Option, List, [], ◌∷◌, length, get_or, option_map, is_some, sym, ap, ◌∙◌, refl, subst, arith, inl, inr, ◌⊎◌}
 use Rattle.std.specs.List.{Any, list_any}
@@ -30,14 +30,14 @@ use Rattle.batch_plan.proofs.LeastLemmas.{need_of_group}
 use Rattle.batch_plan.proofs.MovedLemmas.{down_count-moved, room-moved, status_at-moved}
 use Rattle.batch_plan.proofs.StuckLemmas.{full_for_member, is_no_room, member_where_full}
 
--- a number that stands in a list and passes settles whether one does
+-- a number in a list that passes proves that one does
 number_settles : (p : ℕ → Bool) (xs : List ℕ) (n : ℕ) → has_number n xs ≡ true → p n ≡ true → list_any p xs ≡ true
 number_settles p xs n here passes = by_place (Any-from_list_any (nat_eq n) xs here)
   where
     by_place : Any (λ x. nat_eq n x ≡ true) xs → list_any p xs ≡ true
     by_place found = list_any_at p xs found.0 found.1 found.2 (ap p (found.3 ∙ sym (eqb-true n found.1 found.4)) ∙ passes)
 
--- a member of a group without room is stuck
+-- a member of a group without room lacks room
 stuck_by : (fleet : FleetView) (statuses : List Status) (host group : ℕ) → group < length fleet.groups → has_number host (list_at fleet.members group) ≡ true
     → is_no_room (room statuses (group_of fleet group)) ≡ true → lacks_room (groups_of fleet) statuses host ≡ true
 stuck_by fleet statuses host group within here full =
@@ -111,11 +111,11 @@ module _ (statuses : List Status) where
             let chained = exact group ∙ and_from (is_limited fleet.limits group) (has_number host (list_at fleet.members group)) limited parts.0 in
             number_settles (λ group. is_full (need_at needs group)) chain group chained (need_here group within ∙ parts.1)
 
-    -- a host's chain has a full group just where a group without room holds it
+    -- a host's chain has a full group exactly if a group without room contains it
     pub chain_tells : list_any (λ group. is_full (need_at needs group)) chain ≡ lacks_room (groups_of fleet) statuses host
     chain_tells = both (list_any (λ group. is_full (need_at needs group)) chain) (lacks_room (groups_of fleet) statuses host) from_chain from_groups
 
--- once those that are held back are set aside
+-- after these hosts are held
 module _ (fleet : FleetView) (statuses : List Status) (all : length statuses ≡ length fleet.hosts) where
   abbrev aside : List Status
   aside = set_aside (held_hosts fleet statuses) statuses
@@ -140,7 +140,7 @@ module _ (fleet : FleetView) (statuses : List Status) (all : length statuses ≡
   rooms_aside : (group : FleetGroup) → room aside group ≡ room statuses group
   rooms_aside = room-moved Held refl (held_hosts fleet statuses) statuses held_waits
 
-  -- nobody of a group without room waits any more
+  -- no host of a group without room waits any more
   none_waits : (group : ℕ) → group < length fleet.groups → is_no_room (room statuses (group_of fleet group)) ≡ true → waiting_count aside (list_at fleet.members group) ≡ 0
   none_waits group within full =
       count_none_in (λ h. is_waiting (status_at aside h)) (list_at fleet.members group) (λ host here. ap is_waiting (status_aside host) ∙ by_case host here (held host) refl)

@@ -1,4 +1,4 @@
--- A bound that forces a number: no plan has fewer batches.
+-- If a bound forces a number, no plan has fewer batches.
 use Rattle.std.proofs.Common.{◌≡◌, ℕ, ◌*◌, ◌≤◌, ◌<◌, true, false, nat_lt, Option, None, Some, List, [], ◌∷◌, map, length, get_or, option_map, sym, ap, ◌∙◌, refl, subst, arith, inl, inr, ◌⊎◌}
 use Rattle.std.specs.List.{sum_by, count_by, range_with_len}
 use Rattle.std.proofs.lemmas.Bool.{and_parts, cases_lt, cases_Bool, ltb-true, ltb-false}
@@ -20,7 +20,7 @@ use Rattle.batch_plan.specs.Bounds.{Forces}
 use Rattle.batch_plan.proofs.CountLemmas.{count_within, stands_somewhere, sum_le, sum_of_sums, total_is}
 use Rattle.batch_plan.proofs.CeilLemmas.{ceil_least}
 
--- a need tells its numbers
+-- the numbers of a need
 abbrev pub waiting_told : Option Need → ℕ
 waiting_told None = 0
 waiting_told (Some need) = need.waiting
@@ -49,7 +49,7 @@ pub serial_waiting : (total : ℕ) (cap : Option ℕ) (waiting size : ℕ) → s
 serial_waiting total None waiting size e = absurd (cc)
 serial_waiting total (Some s) waiting size e = ap waiting_told e
 
--- the need of a group that has one is that of a group of the fleet
+-- the need of a group is that of a group of the fleet
 pub need_inside : (groups : List FleetGroup) (statuses : List Status) (group : ℕ) (need : Need) → need_at (map (need_of statuses) groups) group ≡ Some need → group < length groups
 need_inside groups statuses group need is = by_case (cases_lt group (length groups))
   where
@@ -63,7 +63,7 @@ pub need_of_group : (groups : List FleetGroup) (statuses : List Status) (group :
 need_of_group groups statuses group within = get_or-map (need_of statuses) groups group no_group None within
 
 module _ (groups : List FleetGroup) (statuses : List Status) (cap : Option ℕ) (batches : List (List ℕ)) (plan : IsPlan groups statuses cap batches) where
-  -- those of some hosts that wait stand in the batches
+  -- those of some hosts that wait are in the batches
   pub waiting_placed : (members : List ℕ) → waiting_count statuses members ≤ sum_by (λ batch. count_by (λ host. has_number host batch) members) batches
   waiting_placed members =
       subst (λ n. waiting_count statuses members ≤ n) (sum_of_sums (λ host batch. bit (has_number host batch)) members batches)
@@ -81,7 +81,7 @@ module _ (groups : List FleetGroup) (statuses : List Status) (cap : Option ℕ) 
               let none : bit (is_waiting (status_at statuses host)) ≡ 0 = ap bit e in
               omega arith
 
-  -- of a group with so much room no more wait than the batches have room for
+  -- of a group with room `r`, no more hosts wait than the batches have room for
   pub group_placed : (group r : ℕ) → group < length groups → room statuses (group_at groups group) ≡ Some r → waiting_count statuses (group_at groups group).members ≤ length batches * r
   group_placed group r within is =
       let most = sum_by-le (λ batch. members_among batch (group_at groups group)) r batches (λ k d l. few (get_or batches k d) (plan.fits k d l group no_group within)) in
@@ -91,7 +91,7 @@ module _ (groups : List FleetGroup) (statuses : List Status) (cap : Option ℕ) 
       few batch fits =
           ltb-false r (members_among batch (group_at groups group)) (ap (λ o. exceeds o (members_among batch (group_at groups group))) (sym is) ∙ fits)
 
-  -- all that wait are among the first numbers
+  -- all waiting hosts are among the first numbers
   pub all_placed : total_waiting statuses ≤ sum_by length batches
   all_placed = omega (arith, all_are, waiting_placed hosts, sum_le (λ batch. count_by (λ host. has_number host batch) hosts) length batches (λ batch. count_within batch hosts distinct))
     where
@@ -136,7 +136,7 @@ module _ (groups : List FleetGroup) (statuses : List Status) (cap : Option ℕ) 
       by_case (b ∷ bs) placed = omega (arith, forced.1)
   bound_holds Nothing count forced = omega (arith, forced.1)
 
-  -- where hosts of a group wait and none may go down there is no plan
+  -- if hosts of a group wait and none can go down, there is no plan
   pub blocked_none : (group : ℕ) → is_blocked (need_of statuses (group_at groups group)) ≡ true → group < length groups → ⊥
   blocked_none group blocked within = by_case (need_of statuses (group_at groups group)) refl blocked
     where

@@ -1,4 +1,4 @@
--- The counts on a host's chain have room for its leaving.
+-- A host can leave the counts on its chain.
 use Rattle.std.proofs.Common.{◌≡◌, ℕ, zero, suc, ◌≤◌, ◌<◌, Bool, true, ◌||◌, ◌&&◌, not, nat_eq, nat_lt, List, [], ◌∷◌, map}
 use Rattle.std.proofs.Common.{length, get_or, sym, ap, ◌∙◌, refl, arith}
 use Rattle.std.specs.List.{list_all}
@@ -10,7 +10,7 @@ use Rattle.batch_plan.specs.CountPlaces.{waits, is_down}
 use Rattle.batch_plan.specs.Nodes.{Node, Subtree, under, own_node, nodes_of, side_by_side, path_of}
 use Rattle.batch_plan.specs.Changes.{begins, counts_on}
 
--- each node on the chain has counts that the host's place can leave
+-- the host can leave the counts of each node on the chain
 abbrev pub Allow : List ℕ → Place → List Node → Type 0
 Allow chain was nodes = list_all (counts_on chain was) nodes ≡ true
 
@@ -24,7 +24,7 @@ allow_parts chain was tree trees all =
     let split = list_all-append test (nodes_of tree) (side_by_side trees) in
     and_parts (list_all test (nodes_of tree)) (list_all test (side_by_side trees)) (sym split ∙ all)
 
--- what is asked of the counts, asked of the trees' parts
+-- the condition on the counts, for the parts of the trees
 pub counted_at : (group : ℕ) (inner : List ℕ) (was : Place) (trees : List Subtree) (place : ℕ) (d : Subtree) → place < length trees
     → (get_or trees place d).group ≡ group → Allow (group ∷ inner) was (side_by_side trees)
     → (counts_on (group ∷ inner) was (own_node (get_or trees place d)) ≡ true) × Allow inner was (get_or trees place d).below
@@ -56,7 +56,7 @@ pub record Leaves (was : Place) (waiting down : ℕ) : Type 0 where
   pub some_waiting : bit (waits was) ≤ waiting
   pub some_down : bit (is_down was) ≤ down
 
--- what it says of the tree at hand
+-- what it implies for the current tree
 pub leaves : (group : ℕ) (inner : List ℕ) (was : Place) (tree : Subtree) → tree.group ≡ group → counts_on (group ∷ inner) was (own_node tree) ≡ true
     → Leaves was tree.waiting tree.down
 leaves group inner was tree here all =

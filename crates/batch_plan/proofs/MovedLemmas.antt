@@ -1,4 +1,4 @@
--- Waiting hosts that come to a status which is up: the room of no group changes.
+-- Waiting hosts that get a status which is up: the room of no group changes.
 use Rattle.std.proofs.Common.{◌≡◌, ℕ, ◌-◌, ◌≤◌, ◌<◌, Bool, true, false, cond, Option, option_map, List, length, sym, ap, ◌∙◌, refl, arith, inl, inr, ◌⊎◌}
 use Rattle.std.proofs.lemmas.Bool.{cases_lt}
 use Rattle.fleet_index.specs.NumberLists.{has_number}
@@ -15,7 +15,7 @@ module _ (status : Status) (up : is_down status ≡ false) (hosts : List ℕ) (s
   abbrev moved : List Status
   moved = changed (λ _. status) hosts statuses
 
-  -- the status of a number that no host has is idle, and stays so
+  -- the status of a number without a host is idle, and stays so
   pub status_at-moved : (host : ℕ) → status_at moved host ≡ cond (has_number host hosts) status (status_at statuses host)
   status_at-moved host = by_case (cases_lt host (length statuses))
     where

@@ -1,4 +1,4 @@
--- The bound that is named: the first of those that force the most.
+-- The named bound: the first of those that force the most.
 use Rattle.std.proofs.Common.{◌≡◌, ℕ, ◌+◌, ◌≤◌, ◌<◌, List, None, Option, length, sym, ap, ◌∙◌, refl, subst, arith, inl, inr, ◌⊎◌}
 use Rattle.std.proofs.lemmas.Bool.{cases_lt}
 use Rattle.std.proofs.lemmas.List.{get_or_past}
@@ -24,7 +24,7 @@ forced_some : (need : Option Need) (waiting room count : ℕ) → IsForced need 
 forced_some need waiting room count forced =
     omega (arith, forced.count_is, ceil_some waiting room forced.somebody forced.somewhere)
 
--- a bound other than nothing forces a batch at least, and stands before the end
+-- a bound other than nothing forces at least one batch, and comes before the end
 counts_before : (needs : Needs) (bound : Bound) (count : ℕ) → Forces needs count bound → 0 < count → rank needs bound < length needs.groups + 2
 counts_before needs (Group group waiting room) count forces some =
     omega (arith, forced_inside needs.groups group.index waiting room count forces)

@@ -1,4 +1,4 @@
--- The limited groups above a group, and the way down a host's chain.
+-- The limited groups above a group, and the path down a host's chain.
 use Rattle.std.proofs.Common.{◌≡◌, ℕ, zero, suc, ◌+◌, ◌-◌, ◌≤◌, ◌<◌, Bool, true, false, ◌||◌, ◌&&◌, nat_eq, nat_lt, Option, Some, None, List, [], ◌∷◌, ◌++◌}
 use Rattle.std.proofs.Common.{map, get_or, sym, ap, ◌∙◌, refl, arith, inl, inr, ◌⊎◌}
 use Rattle.std.specs.List.{list_all, range_with_len}
@@ -16,7 +16,7 @@ use Rattle.batch_plan.specs.Counts.{is_from, stands_below, limited_above, bare}
 use Rattle.batch_plan.proofs.ShapeLemmas.{last_path-append}
 use Rattle.batch_plan.proofs.WhereLemmas.{where_suc, where_same, where_to, all_range, range_all, GoesOn, where_front, where_begins, begins_goes_on, both, only}
 
--- from the top one on up to the group, each has its parent there
+-- from the top group to the group, each has its parent in that range
 abbrev pub IsBelow : List (Option ℕ) → ℕ → ℕ → Type 0
 IsBelow parents top group =
     (between : ℕ) → top < between → between ≤ group → (parent : ℕ) × (get_or parents between None ≡ Some parent) × (top ≤ parent)
@@ -33,7 +33,7 @@ abbrev HasParentFrom : List (Option ℕ) → ℕ → ℕ → Type 0
 HasParentFrom parents top between = (parent : ℕ) × (get_or parents between None ≡ Some parent) × (top ≤ parent)
 
 module _ (limits parents : List (Option ℕ)) where
-  -- the group at the top is limited, and the other one stands below it
+  -- the top group is limited, and the other one is below it
   abbrev is_above : ℕ → ℕ → Bool
   is_above group top = is_limited limits top && stands_below parents top group
 
@@ -65,7 +65,7 @@ module _ (limits parents : List (Option ℕ)) where
   none_above group none =
       where_to (is_above group) 0 group (omega arith) (λ i l h. and_left _ _ (none i h))
 
-  -- the limited groups above a group begin the path of the last limited group before it
+  -- the limited groups above a group are a prefix of the path of the last limited group before it
   module _ (last group : ℕ) (before : last < group) (is : is_limited limits last ≡ true) (none : (x : ℕ) → last < x → x < group → is_limited limits x ≡ false) where
     abbrev on_path : ℕ → Bool
     on_path x = (is_above last x) || nat_eq x last
@@ -115,7 +115,7 @@ module _ (limits parents : List (Option ℕ)) where
         let on = where_begins (is_above group) on_path (suc last) among first in
         record { rest = on.rest; is = path_is ∙ on.is ∙ ap (λ (l : List ℕ). l ++ on.rest) (sym above_is) }
 
-  -- so do they where all limited groups before it stand in the tree
+  -- likewise if all limited groups before it are in the tree
   pub last_known : (count group : ℕ) → count ≤ group → ((x : ℕ) → count ≤ x → x < group → is_limited limits x ≡ false)
       → GoesOn (limited_above limits parents group) (last_path (nodes_before count))
   last_known zero group le none =
@@ -144,7 +144,7 @@ module _ (limits parents : List (Option ℕ)) where
           earlier x l h (inl s) = ap (is_limited limits) (sym s) ∙ e
           earlier x l h (inr d) = none x (omega (arith, l, d)) h
 
-  -- groups in preorder: each has its parent before it, and stands below it
+  -- groups in preorder: each has its parent before it, and is below it
   module _ (preorder : (group parent : ℕ) → get_or parents group None ≡ Some parent → (parent < group) × IsBelow parents parent group) where
     pub above_none : (group : ℕ) → get_or parents group None ≡ None → limited_above limits parents group ≡ []
     above_none group none =
@@ -195,7 +195,7 @@ module _ (limits parents : List (Option ℕ)) where
                     let there = far m in
                     (there.0, there.1, omega (arith, there.2, l))
 
-  -- a host's chain, which is exact and nested, goes down the tree
+  -- a host's chain, which is exact and nested, leads down the tree
   module _ (members : List (List ℕ)) (chain : List ℕ) (host bound : ℕ) (rise : IsRising bound chain)
       (exact : (group : ℕ) → has_number group chain ≡ (is_limited limits group && has_number host (list_at members group)))
       (nested : (outer inner : ℕ) → outer < inner → has_number outer chain ≡ true → has_number inner chain ≡ true → IsBelow parents outer inner)
@@ -239,7 +239,7 @@ module _ (limits parents : List (Option ℕ)) where
         begins_goes_on _ _ (where_front stands (suc group) bound (omega arith)) in
         ap (λ (l : List ℕ). begins l chain) path ∙ ap (begins (numbers_where stands (suc group))) rise ∙ front
 
-    -- a limited group's path begins the chain where the host is a member, and nowhere else
+    -- a limited group's path is a prefix of the chain exactly if the host is a member
     pub on_chain : (group : ℕ) → is_limited limits group ≡ true → begins (limited_above limits parents group ++ group ∷ []) chain ≡ has_number host (list_at members group)
     on_chain group limited = both _ _ up (leads_down group limited)
       where

@@ -1,4 +1,4 @@
--- What may be done with a plan, and what its first batch leaves.
+-- What a plan permits, and what its first batch leaves.
 use Rattle.std.proofs.Common.{◌≡◌, ℕ, zero, suc, ◌+◌, ◌≤◌, ◌<◌, Bool, true, false, ◌&&◌, ◌||◌, not, cond, nat_eq, nat_lt, Option}
 use Rattle.std.proofs.Common.{List, [], ◌∷◌, length, get_or, sym, ap, ◌∙◌, refl, arith, inl, inr, ◌⊎◌}
 use Rattle.std.specs.List.{count_by, list_all, range_with_len}
@@ -24,7 +24,7 @@ use Rattle.batch_plan.proofs.CountLemmas.{count_absent, counted_here, distinct_c
 use Rattle.batch_plan.proofs.MovedLemmas.{is_full_for-moved, status_at-moved}
 use Rattle.batch_plan.proofs.UnblockedLemmas.{none_where}
 
--- what each number that stands in a list passes
+-- each number in a list passes
 all_numbers : (p : ℕ → Bool) (xs : List ℕ) → ((n : ℕ) → has_number n xs ≡ true → p n ≡ true) → list_all p xs ≡ true
 all_numbers p [] each = refl
 all_numbers p (x ∷ xs) each =
@@ -41,7 +41,7 @@ bit_true false some = absurd (omega (arith, some))
 times_first : (host : ℕ) (batch : List ℕ) (rest : List (List ℕ)) → times_in (batch ∷ rest) host ≡ count_by (nat_eq host) batch + times_in rest host
 times_first host batch rest = sum_by-cons (λ batch. count_by (nat_eq host) batch) batch rest
 
--- who stands in a batch is counted in the batches, and twice who stands in two
+-- a host in a batch is counted in the batches, and counted twice if it is in two
 counted_at : (host : ℕ) (batches : List (List ℕ)) (place : ℕ) → has_number host (list_at batches place) ≡ true → 0 < times_in batches host
 counted_at host [] place here = absurd (cc)
 counted_at host (batch ∷ rest) zero here = omega (arith, times_first host batch rest, counted_here host batch here)
@@ -57,7 +57,7 @@ counted_twice host (batch ∷ rest) (suc first) (suc second) before here there =
     omega (arith, times_first host batch rest, counted_twice host rest first second (omega (arith, before)) here there)
 
 module _ (groups : List FleetGroup) (statuses : List Status) (cap : Option ℕ) (batches : List (List ℕ)) (plan : IsPlan groups statuses cap batches) where
-  -- no host stands twice, and who stands in a batch waits
+  -- no host appears twice, and a host in a batch waits
   stands_once : (host : ℕ) → times_in batches host ≤ 1
   stands_once host = omega (arith, plan.once host, bit_most (is_waiting (status_at statuses host)))
 
@@ -100,7 +100,7 @@ module _ (groups : List FleetGroup) (statuses : List Status) (cap : Option ℕ) 
   abbrev updated : List Status
   updated = changed (λ _. Updated) batch statuses
 
-  -- who waits once the batch is updated
+  -- the hosts that wait after the batch is updated
   waits_after : (host : ℕ) → is_waiting (status_at updated host) ≡ (is_waiting (status_at statuses host) && not (has_number host batch))
   waits_after host = ap is_waiting (status_at-moved Updated refl batch statuses first_waits host) ∙ by_case (is_waiting (status_at statuses host)) refl (has_number host batch)
     where
@@ -110,7 +110,7 @@ module _ (groups : List FleetGroup) (statuses : List Status) (cap : Option ℕ) 
       by_case true is false = is
       by_case false is false = is
 
-  -- of the batch each stands once, and nobody else does
+  -- each host of the batch appears once, and no other host does
   first_counts : (host : ℕ) → count_by (nat_eq host) batch ≡ bit (has_number host batch)
   first_counts host = by_case (has_number host batch) refl
     where
@@ -118,7 +118,7 @@ module _ (groups : List FleetGroup) (statuses : List Status) (cap : Option ℕ) 
       by_case true here = omega (arith, first_once host, counted_here host batch here)
       by_case false none = count_absent host batch none
 
-  -- who waited and isn't of the batch still waits
+  -- a host that waited and is not in the batch still waits
   split : (w b : Bool) → (b ≡ true → w ≡ true) → bit w ≡ bit b + bit (w && not b)
   split true true inside = omega arith
   split true false inside = omega arith
@@ -142,7 +142,7 @@ module _ (groups : List FleetGroup) (statuses : List Status) (cap : Option ℕ) 
         within_cap = λ k d l. plan.within_cap (suc k) d (omega (arith, l));
       }
 
-  -- with the batch before it a plan of what is left is one of the whole
+  -- the batch and a plan of the rest are together a plan of the whole
   whole_planned : (others : List (List ℕ)) → IsPlan groups updated cap others → IsPlan groups statuses cap (batch ∷ others)
   whole_planned others left =
       record {
@@ -185,7 +185,7 @@ answers_one_less fleet statuses cap batch rest bound least (Planned plan) best =
 answers_one_less fleet statuses cap batch rest bound least (Blocked group waiting) best =
     best.no_plan rest (one_batch_less (groups_of fleet) statuses cap batch rest bound least).plan
 
--- those that are held back
+-- the held hosts
 module _ (fleet : FleetView) (statuses : List Status) where
   abbrev held : List ℕ
   held = held_hosts fleet statuses

@@ -1,4 +1,4 @@
--- The plan that is dealt is a plan, and the least one.
+-- The dealt batches are a plan, and a minimal one.
 use Rattle.std.proofs.Common.{◌≡◌, ℕ, ◌+◌, ◌-◌, ◌*◌, ◌%◌, ◌≤◌, ◌<◌, Bool, true, false, ◌&&◌, nat_eq, nat_lt, cond, is_some, option_map, None}
 use Rattle.std.proofs.Common.{Some, Option, List, [], ◌∷◌, map, filter, length, get_or, sym, ap, ◌∙◌, refl, subst, arith, inl, inr, ◌⊎◌, IfSome}
 use Rattle.std.specs.List.{count_by, range_with_len}
@@ -35,7 +35,7 @@ use Rattle.batch_plan.proofs.LeastLemmas.{need_inside, need_of_group, bound_hold
 use Rattle.batch_plan.proofs.DealLemmas.{dealt_once, hits_one, get_or-dealt, length-dealt}
 use Rattle.batch_plan.proofs.ShareLemmas.{IsAhead, share_some, share_together, stand_first, stand_together, together_from, together_kept}
 
--- of what a filter keeps as many are equal to a number as before, where the number passes
+-- a filter keeps all occurrences of a number that passes
 count_kept : (q : ℕ → Bool) (n : ℕ) (xs : List ℕ) → count_by (nat_eq n) (filter q xs) ≡ cond (q n) (count_by (nat_eq n) xs) 0
 count_kept q n [] = both (q n)
   where
@@ -70,7 +70,7 @@ count_kept q n (x ∷ xs) = by_case (count_kept q n xs) (q x) refl (cases_eq n x
         let same : count_by (nat_eq n) (x ∷ xs) ≡ count_by (nat_eq n) xs = omega (arith, all, none) in
         rest ∙ ap (λ m. cond (q n) m 0) (sym same)
 
--- of what a filter keeps those that pass another test pass both
+-- the numbers kept by a filter that pass another test are those that pass both
 count_of_kept : (p q : ℕ → Bool) (xs : List ℕ) → count_by p (filter q xs) ≡ count_by (λ x. p x && q x) xs
 count_of_kept p q [] = refl
 count_of_kept p q (x ∷ xs) = by_case (count_of_kept p q xs) (q x) refl
@@ -91,7 +91,7 @@ count_of_kept p q (x ∷ xs) = by_case (count_of_kept p q xs) (q x) refl
         let here : bit (p x && q x) ≡ 0 = ap (λ b. bit (p x && b)) is ∙ none (p x) in
         omega (arith, rest, here, count_by-cons (λ x. p x && q x) x xs)
 
--- of the numbers below a bound one is equal to a number below it
+-- of the numbers below a bound, one equals a number below it
 range_one : (n k : ℕ) → k < n → count_by (nat_eq k) (range_with_len 0 n) ≡ 1
 range_one n k less =
     sum_same (λ b. bit (nat_eq k b)) (λ b. bit (nat_eq k b && true)) (range_with_len 0 n) (λ b. both (nat_eq k b)) ∙ hits_one k true n less
@@ -113,7 +113,7 @@ count_own p q (y ∷ ys) own =
     both true = refl
     both false = refl
 
--- a batch has no more of a group's members than hosts that are members
+-- a batch has at most as many of a group's members as hosts that are members
 pub among_least : (batch : List ℕ) (group : FleetGroup) → are_distinct group.members ≡ true → members_among batch group ≤ count_by (λ host. has_number host group.members) batch
 among_least batch group distinct =
     let own = count_own (λ host. has_number host batch) (λ host. has_number host group.members) group.members (λ y e. e) in
@@ -151,7 +151,7 @@ module _ (fleet : FleetView) (sound : IsSound fleet) (statuses : List Status) (a
   total_numbers : total_waiting statuses ≡ count_by waits numbers
   total_numbers = total_is statuses ∙ ap (λ n. count_by waits (range_with_len 0 n)) all
 
-  -- each waiting host is dealt once, and no other host
+  -- each waiting host is dealt once, and no other host is
   in_order_once : (host : ℕ) → count_by (nat_eq host) hosts ≡ cond (waits host) 1 0
   in_order_once host = count_kept waits host fleet.order ∙ by_case (waits host) refl
     where
@@ -161,7 +161,7 @@ module _ (fleet : FleetView) (sound : IsSound fleet) (statuses : List Status) (a
           moved ∙ range_one (length fleet.hosts) host (omega (arith, all, waiting_within statuses host is))
       by_case false is = refl
 
-  -- no more of a group's members wait than hosts wait at all
+  -- at most as many of a group's members wait as hosts wait in total
   group_total : (group : FleetGroup) → are_distinct group.members ≡ true → waiting_count statuses group.members ≤ total_waiting statuses
   group_total group distinct =
       omega (arith, count_le waits (λ host. has_number host numbers && waits host) host_below group.members, count_among waits numbers group.members distinct, total_numbers)
@@ -179,7 +179,7 @@ module _ (fleet : FleetView) (sound : IsSound fleet) (statuses : List Status) (a
               omega (arith, same)
           by_case false is = omega arith
 
-  -- no more of the hosts dealt are members of a group than its members wait
+  -- at most as many of the dealt hosts are members of a group as its members wait
   group_dealt : (group : FleetGroup) → count_by (λ host. has_number host group.members) hosts ≤ waiting_count statuses group.members
   group_dealt group =
       let member : ℕ → Bool = λ host. has_number host group.members in
@@ -221,7 +221,7 @@ module _ (fleet : FleetView) (sound : IsSound fleet) (statuses : List Status) (a
     few_batches OneHost forced = omega (arith, forced.0, forced.1, order_total fleet statuses sound all)
     few_batches Nothing forced = omega (arith, forced.1)
 
-    -- so many batches have room for those of a group that wait
+    -- the batches have room for the group's waiting hosts
     group_enough : (group r : ℕ) → group < length (groups_of fleet) → room statuses (group_at (groups_of fleet) group) ≡ Some r
         → waiting_count statuses (group_at (groups_of fleet) group).members ≤ count * r
     group_enough group r inside is = by_case (cases_lt 0 w)
@@ -252,7 +252,7 @@ module _ (fleet : FleetView) (sound : IsSound fleet) (statuses : List Status) (a
             ceil_within v r count more (named.greatest (Group (record { index = group }) v r) (div_ceil v r) forced)
         by_case (inr none) = omega (arith, none)
 
-    -- the hosts of a limited group stand together where they are dealt
+    -- the hosts of a limited group are adjacent in the order of dealing
     group_together : (group r : ℕ) → group < length (groups_of fleet) → room statuses (group_at (groups_of fleet) group) ≡ Some r
         → stand_together (λ host. has_number host (group_at (groups_of fleet) group).members) hosts ≡ true
     group_together group r inside is =
@@ -274,7 +274,7 @@ module _ (fleet : FleetView) (sound : IsSound fleet) (statuses : List Status) (a
         limited : is_limited fleet.limits group ≡ true
         limited = by_limit (get_or fleet.limits group None) (ap (room statuses) (sym here) ∙ is)
 
-    -- a batch is no more than a group's room
+    -- a batch is within a group's room
     batch_fits : (batch : ℕ) → batch < count → (group : ℕ) → group < length (groups_of fleet) → is_full_for statuses (dealt_to count batch 0 hosts) (group_at (groups_of fleet) group) ≡ false
     batch_fits batch within group inside = by_room (room statuses (group_at (groups_of fleet) group)) refl
       where
@@ -313,7 +313,7 @@ module _ (fleet : FleetView) (sound : IsSound fleet) (statuses : List Status) (a
                 omega (arith, enough, order_total fleet statuses sound all)
             by_total size some is (inr none) = omega (arith, none, order_total fleet statuses sound all)
 
-    -- what is dealt is a plan
+    -- the dealt batches are a plan
     pub planned : IsPlan (groups_of fleet) statuses cap (dealt hosts count)
     planned =
         record {

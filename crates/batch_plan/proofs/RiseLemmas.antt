@@ -17,7 +17,7 @@ rise_right low [] ys up = up
 rise_right low (x ∷ xs) ys up =
     rise_lower (x + 1) low ys (omega (arith, up.0)) (rise_right (x + 1) xs ys up.1)
 
--- what is below the first number, or not above a later one, is not among those before it
+-- a number below the first, or not above a later one, is not among those before it
 pub has_below : (n low : ℕ) (xs : List ℕ) → RiseFrom low xs → n < low → has_number n xs ≡ false
 has_below n low [] up l = refl
 has_below n low (x ∷ xs) up l =

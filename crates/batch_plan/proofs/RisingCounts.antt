@@ -1,4 +1,4 @@
--- How many hosts of a rising list pass a test, as the test changes at one of them.
+-- How many hosts of an ascending list pass a test, as the test changes at one of them.
 use Rattle.std.proofs.Common.{◌≡◌, ℕ, ◌+◌, Bool, true, not, ◌&&◌, List, [], ◌∷◌, ap, ◌∙◌, refl, arith}
 use Rattle.std.specs.List.{count_by}
 use Rattle.fleet_index.specs.NumberLists.{are_distinct}

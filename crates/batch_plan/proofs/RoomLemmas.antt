@@ -1,4 +1,4 @@
--- What a fleet's group needs, by its lists.
+-- The need of a fleet's group, by its lists.
 use Rattle.std.proofs.Common.{◌≡◌, ℕ, ◌-◌, ◌<◌, None, List, length, get_or, option_map, ap}
 use Rattle.fleet_index.specs.NumberLists.{list_at}
 use Rattle.domains.specs.FleetViews.{FleetView}

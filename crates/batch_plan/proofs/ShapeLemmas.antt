@@ -1,4 +1,4 @@
--- A node put after all others.
+-- A node appended after all others.
 use Rattle.std.proofs.Common.{◌≡◌, ℕ, zero, suc, ◌+◌, List, [], ◌∷◌, ◌++◌, map, length, get_or, set, take, sym, ap, ◌∙◌, refl, arith, append_assoc, Result, Ok, Err, OnOk}
 use Rattle.std.proofs.lemmas.List.{map-append, append-nil}
 use Rattle.batch_plan.specs.Nodes.{Node, Subtree, under, own_node, nodes_of, side_by_side}
@@ -31,7 +31,7 @@ last_path-last (tree ∷ (next ∷ trees)) zero d e = absurd (omega arith)
 last_path-last (tree ∷ (next ∷ trees)) (suc last) d e =
     last_path-append (nodes_of tree) (own_node next) (map (under next.group) next.below ++ side_by_side trees) ∙ last_path-last (next ∷ trees) last d (omega arith)
 
--- a node more in the last tree is a node more
+-- one more node in the last tree is one more node
 grown : (trees : List Subtree) (last : ℕ) (tree d : Subtree) (node : Node) → last + 1 ≡ length trees
     → nodes_of tree ≡ nodes_of (get_or trees last d) ++ node ∷ [] → side_by_side (set trees last tree) ≡ side_by_side trees ++ node ∷ []
 grown [] last tree d node e more = absurd (omega arith)
@@ -43,11 +43,11 @@ grown (first ∷ (next ∷ trees)) (suc last) tree d node e more =
     ap (λ (l : List Node). nodes_of first ++ l) (grown (next ∷ trees) last tree d node (omega arith) more)
     ∙ sym (append_assoc (nodes_of first) (side_by_side (next ∷ trees)) (node ∷ []))
 
--- a leaf's node below the first groups of the last path
+-- the node of a leaf below the first groups of the last path
 abbrev leaf_at : ℕ → Subtree → List Node → Node
 leaf_at depth leaf nodes = record (own_node leaf) { above = take depth (last_path nodes) }
 
--- a leaf put below the last tree
+-- a leaf appended below the last tree
 pub appended : (trees : List Subtree) (last depth less : ℕ) (was new leaf : Subtree) → last + 1 ≡ length trees → depth ≡ less + 1
     → was ≡ get_or trees last was → new.group ≡ was.group → new.waiting ≡ was.waiting → new.down ≡ was.down
     → new.below ≡ was.below ++ leaf_at less leaf was.below ∷ []

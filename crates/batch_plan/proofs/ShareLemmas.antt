@@ -1,4 +1,4 @@
--- A run of hosts that are dealt: each batch takes at most its share.
+-- A run of dealt hosts: each batch takes at most its share.
 use Rattle.std.proofs.Common.{◌≡◌, ℕ, zero, suc, ◌+◌, ◌-◌, ◌*◌, ◌/◌, ◌%◌, ◌≤◌, ◌<◌, Bool, true, false, ◌&&◌, not}
 use Rattle.std.proofs.Common.{cond, nat_eq, List, [], ◌∷◌, filter, length, get_or, sym, ap, ◌∙◌, refl, subst, arith, inl, inr, ◌⊎◌}
 use Rattle.std.specs.List.{count_by, list_any}
@@ -8,7 +8,7 @@ use Rattle.fleet_states.proofs.CountLemmas.{bit, count_by-cons}
 use Rattle.batch_plan.specs.Deals.{dealt_to}
 use Rattle.batch_plan.proofs.DealLemmas.{count_dealt}
 
--- the batch takes the host that stands `ahead` places further on
+-- the batch takes the host that is `ahead` positions later
 pub record IsAhead (count batch place ahead : ℕ) : Type 0 where
   pub near : ahead < count
   pub there : (place + ahead) % count ≡ batch
@@ -31,7 +31,7 @@ same_remainder n d k near same = by_case (cases_lt (n / k) ((n + d) / k))
         omega (arith, times, whole, later, same)
 
 module _ (count batch : ℕ) where
-  -- the batch takes this host, and the next one a whole turn later
+  -- the batch takes this host, and its next one `count` positions later
   taken : (place : ℕ) → IsAhead count batch place 0 → (nat_eq (place % count) batch ≡ true) × IsAhead count batch (place + 1) (count - 1)
   taken place is = (
     eq-eqb (place % count) batch (ap (λ n. n % count) (omega arith) ∙ is.there),
@@ -51,12 +51,12 @@ module _ (count batch : ℕ) where
     },
   )
 
--- from here on those that pass stand first
+-- the hosts that pass come first from here on
 abbrev pub stand_first : (ℕ → Bool) → List ℕ → Bool
 stand_first p [] = true
 stand_first p (x ∷ xs) = cond (p x) (stand_first p xs) (not (list_any p xs))
 
--- those that pass stand together
+-- the hosts that pass are adjacent
 abbrev pub stand_together : (ℕ → Bool) → List ℕ → Bool
 stand_together p [] = true
 stand_together p (x ∷ xs) = cond (p x) (stand_first p xs) (stand_together p xs)
@@ -84,7 +84,7 @@ module _ (p : ℕ → Bool) (count batch : ℕ) where
       no true = refl
       no false = refl
 
-  -- a batch's part of a run
+  -- a batch's share of a run
   share_first : (place ahead : ℕ) (hosts : List ℕ) → IsAhead count batch place ahead → stand_first p hosts ≡ true → share place hosts * count + ahead ≤ count_by p hosts + (count - 1)
   share_first place ahead [] is first = omega (arith, is.near)
   share_first place ahead (host ∷ hosts) is first =
@@ -153,7 +153,7 @@ module _ (p : ℕ → Bool) (count batch : ℕ) where
           let total : share place (host ∷ hosts) * count ≡ share (place + 1) hosts * count = ap (λ n. n * count) same in
           omega (arith, later rest ahead is first, total, own, all)
 
--- where hosts are as many as places are before the batch's first one, the batch has a host
+-- if there are more hosts than positions before the batch's first one, the batch has a host
 pub share_some : (count batch place ahead : ℕ) (hosts : List ℕ) → IsAhead count batch place ahead → ahead < length hosts → 0 < length (dealt_to count batch place hosts)
 share_some count batch place ahead [] is more = absurd (omega (arith, more))
 share_some count batch place zero (host ∷ hosts) is more =
@@ -163,7 +163,7 @@ share_some count batch place (suc ahead) (host ∷ hosts) is more =
     subst (λ b. 0 < length (cond b (host ∷ dealt_to count batch (place + 1) hosts) (dealt_to count batch (place + 1) hosts))) (sym next.0)
     (share_some count batch (place + 1) ahead hosts next.1 (omega (arith, more)))
 
--- hosts between two that pass pass
+-- hosts between two that pass also pass
 abbrev pub PassBetween : (ℕ → Bool) → List ℕ → Type 0
 PassBetween p hosts =
     (first later last : ℕ) → first ≤ later → later ≤ last → last < length hosts → p (get_or hosts first 0) ≡ true → p (get_or hosts last 0) ≡ true → p (get_or hosts later 0) ≡ true
@@ -174,7 +174,7 @@ module _ (p : ℕ → Bool) where
   none_pass (host ∷ hosts) none =
       or_from (p host) (list_any p hosts) (false_from_ne_true (p host) (none 0 (omega arith))) (none_pass hosts (λ last l. none (suc last) (omega (arith, l))))
 
-  -- where each host before one that passes does
+  -- if each host before one that passes also does
   first_from : (hosts : List ℕ) → ((later last : ℕ) → later ≤ last → last < length hosts → p (get_or hosts last 0) ≡ true → p (get_or hosts later 0) ≡ true) → stand_first p hosts ≡ true
   first_from [] before = refl
   first_from (host ∷ hosts) before =
@@ -195,7 +195,7 @@ module _ (p : ℕ → Bool) where
           first_from hosts (λ later last l within e. between 0 (suc later) (suc last) (omega arith) (omega (arith, l)) (omega (arith, within)) passes e)
       by_case rest false passes = rest
 
--- what a filter keeps stands as before
+-- a filter keeps the order
 module _ (p q : ℕ → Bool) where
   any_kept : (hosts : List ℕ) → list_any p hosts ≡ false → list_any p (filter q hosts) ≡ false
   any_kept [] none = refl
@@ -234,7 +234,7 @@ module _ (p q : ℕ → Bool) where
           ∙ not_from_false (list_any p (filter q hosts)) (any_kept hosts (not-true (list_any p hosts) first))
       by_case rest false passes first false = first_none (filter q hosts) (any_kept hosts (not-true (list_any p hosts) first))
 
-  -- those that pass stand together in what a filter keeps
+  -- after a filter, the hosts that pass are still adjacent
   pub together_kept : (hosts : List ℕ) → stand_together p hosts ≡ true → stand_together p (filter q hosts) ≡ true
   together_kept [] together = refl
   together_kept (host ∷ hosts) together = by_case (together_kept hosts) (p host) refl together (q host)

@@ -1,4 +1,4 @@
--- One host, and the groups without room that hold it.
+-- One host, and the groups without room that contain it.
 use Rattle.std.proofs.Common.{◌≡◌, ℕ, ◌≤◌, ◌<◌, Bool, true, false, ◌||◌, nat_eq, None, Some, Option, List, [], ◌∷◌, sym, ap, ◌∙◌, refl, arith, inl, inr, ◌⊎◌}
 use Rattle.std.proofs.lemmas.Bool.{both_ways, cases_Bool, cases_eq, eq-eqb, eqb-true, lt-ltb, ltb-true, ne_eqb, or_left}
 use Rattle.fleet_index.specs.NumberLists.{has_number}
@@ -9,12 +9,12 @@ use Rattle.fleet_states.specs.Groups.{FleetGroup, is_full_for, members_among, ro
 use Rattle.fleet_states.proofs.CountLemmas.{count_none_in, count_some}
 use Rattle.batch_plan.proofs.CountLemmas.{count_within}
 
--- none may go down
+-- no host can go down
 abbrev pub is_no_room : Option ℕ → Bool
 is_no_room None = false
 is_no_room (Some room) = nat_eq room 0
 
--- a member is one of its group's members among itself
+-- a member is one of its group's members in the list of itself
 pub among_itself : (host : ℕ) (group : FleetGroup) → has_number host group.members ≡ true → 0 < members_among (host ∷ []) group
 among_itself host group here =
     count_some (λ h. has_number h (host ∷ [])) host group.members here (or_left (nat_eq host host) false (eq-eqb host host refl))
@@ -39,7 +39,7 @@ module _ (statuses : List Status) (host : ℕ) (group : FleetGroup) where
       by_room None e = absurd (cc)
       by_room (Some r) e = lt-ltb r (members_among (host ∷ []) group) (omega (arith, some, eqb-true r 0 e))
 
-  -- where it has none for a host it holds the host, and has room for nobody
+  -- if it has no room for a host, it contains the host, and has no room at all
   pub member_where_full : are_distinct group.members ≡ true → is_full_for statuses (host ∷ []) group ≡ true → (has_number host group.members ≡ true) × (is_no_room (room statuses group) ≡ true)
   member_where_full distinct full = by_room (room statuses group) full (cases_Bool (has_number host group.members))
     where

@@ -1,4 +1,4 @@
--- The needs of all groups, once each node of the tree of counts has told that of its own group.
+-- The needs of all groups, after each node of the tree of counts has recorded that of its own group.
 use Rattle.std.proofs.Common.{◌≡◌, ℕ, ◌+◌, ◌-◌, ◌<◌, Bool, true, false, ◌&&◌, ◌||◌, None, Some, Option, List, [], ◌∷◌, ◌++◌}
 use Rattle.std.proofs.Common.{cond, is_some, option_map, nat_eq, length, map, get_or, take, sym, ap, ◌∙◌, refl, arith, inl, inr, ◌⊎◌}
 use Rattle.std.specs.List.{range_with_len}
@@ -18,7 +18,7 @@ module _ (limits : List (Option ℕ)) (group : ℕ) where
   told_append [] others before = refl
   told_append (node ∷ nodes) others before = told_append nodes others (told limits node group before)
 
-  -- a node tells the same from one group further down
+  -- a node records the same one group further down
   told_under : (top : ℕ) (nodes : List Node) (before : Option Need) → told_by limits (map (under top) nodes) group before ≡ told_by limits nodes group before
   told_under top [] before = refl
   told_under top (node ∷ nodes) before = told_under top nodes (told limits node group before)
@@ -27,7 +27,7 @@ module _ (limits : List (Option ℕ)) (group : ℕ) where
   side_more trees i d within =
       ap side_by_side (take_more trees i d within) ∙ sym (flat_map_more nodes_of [] (take i trees) (get_or trees i d))
 
-  -- one tree more, its own group first and then those below it
+  -- one more tree, its own group first and then those below it
   pub told_more : (trees : List Subtree) (i : ℕ) (tree : Subtree) → i < length trees → tree ≡ get_or trees i tree → (before now own new : Option Need)
       → now ≡ told_by limits (side_by_side (take i trees)) group before → own ≡ told limits (own_node tree) group now → new ≡ told_by limits tree.below group own
       → new ≡ told_by limits (side_by_side (take (i + 1) trees)) group before
@@ -63,7 +63,7 @@ module _ (counted : Counted) where
           ap (λ b. cond (has_number group groups) (counted_need counted group) (cond b (counted_need counted first) before)) here
           ∙ sym (ap (λ b. cond (b || has_number group groups) (counted_need counted group) before) here)
 
-  -- an unlimited group needs nothing, and nobody tells of it
+  -- an unlimited group has no need, and no node records one
   told_group : (group : ℕ) → group < length counted.fleet.groups → told_by counted.fleet.limits (nodes_at counted) group None ≡ counted_need counted group
   told_group group within =
       told_listed (limited_groups counted.fleet) group None ∙ ap (λ b. cond b (counted_need counted group) None) listed ∙ by_limit (get_or counted.fleet.limits group None) refl

@@ -1,4 +1,4 @@
--- Trees side by side, and the nodes of one of them.
+-- Trees in sequence, and the nodes of one of them.
 use Rattle.std.proofs.Common.{◌≡◌, ℕ, zero, suc, ◌+◌, ◌<◌, List, [], ◌∷◌, ◌++◌, map, length, get_or, ap, ◌∙◌, refl, subst, arith, length-append}
 use Rattle.std.proofs.lemmas.List.{map-append, length-map}
 use Rattle.batch_plan.specs.Nodes.{Node, Subtree, under, side_by_side, groups_in, RiseFrom, nodes_below}

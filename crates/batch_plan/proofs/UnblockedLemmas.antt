@@ -1,4 +1,4 @@
--- Where no group blocks every plan nobody is held back.
+-- If no group blocks every plan, no host is held.
 use Rattle.std.proofs.Common.{◌≡◌, ℕ, ◌<◌, Bool, true, false, ◌&&◌, cond, filter, nat_lt, None, Some, Option, List, [], ◌∷◌, length, map, option_map, sym, ap, ◌∙◌, refl, arith, inl, inr, ◌⊎◌}
 use Rattle.std.specs.List.{Any, range_with_len}
 use Rattle.std.proofs.lemmas.Bool.{and_from, both_ways, cases_Bool, eqb-true, lt-ltb, false_from_ne_true}
@@ -17,12 +17,12 @@ use Rattle.batch_plan.specs.Needs.{is_blocked, need_at, need_of}
 use Rattle.batch_plan.proofs.LeastLemmas.{need_of_group}
 use Rattle.batch_plan.proofs.StuckLemmas.{is_no_room, member_where_full}
 
--- where nobody passes none is listed
+-- if no number passes, none is listed
 pub none_where : (test : ℕ → Bool) → ((n : ℕ) → test n ≡ false) → (xs : List ℕ) → filter test xs ≡ []
 none_where test none [] = refl
 none_where test none (x ∷ xs) = ap (λ b. cond b (x ∷ filter test xs) (filter test xs)) (none x) ∙ none_where test none xs
 
--- a group that has no room blocks every plan where a member waits
+-- a group without room blocks every plan if a member waits
 member_blocks : (statuses : List Status) (group : FleetGroup) (host : ℕ) → has_number host group.members ≡ true → is_waiting (status_at statuses host) ≡ true
     → is_no_room (room statuses group) ≡ true → is_blocked (need_of statuses group) ≡ true
 member_blocks statuses group host here waits full = by_room (room statuses group) full
@@ -59,7 +59,7 @@ module _ (fleet : FleetView) (sound : IsSound fleet) (statuses : List Status)
       by_case host (inl waits) = ap (λ b. b && lacks_room (groups_of fleet) statuses host) waits ∙ not_stuck host waits
       by_case host (inr none) = ap (λ b. b && lacks_room (groups_of fleet) statuses host) none
 
--- the same by what the groups need
+-- likewise by the needs of the groups
 pub nobody_held_by : (fleet : FleetView) (statuses : List Status) → IsSound fleet → (needs : List (Option Need)) → needs ≡ map (need_of statuses) (groups_of fleet)
     → ((group : ℕ) → group < length needs → is_blocked (need_at needs group) ≡ false) → held_hosts fleet statuses ≡ []
 nobody_held_by fleet statuses sound needs is free =

@@ -1,4 +1,4 @@
--- The rule by which hosts are dealt has one answer.
+-- The rule for dealing hosts has one answer.
 use Rattle.std.proofs.Common.{◌≡◌, ℕ, ◌≤◌, ◌<◌, None, Some, Option, List, length, sym, ap, ◌∙◌, refl, subst, arith, inl, inr, ◌⊎◌}
 use Rattle.std.proofs.lemmas.Bool.{both_ways, cases_lt}
 use Rattle.std.proofs.lemmas.List.{get_or_past}
@@ -25,7 +25,7 @@ abbrev room_of : Option Need → ℕ
 room_of None = 0
 room_of (Some need) = need.room
 
--- a need that is there is that of a group
+-- an existing need is that of a group
 need_within : (needs : Needs) (group : ℕ) (need : Need) → need_at needs.groups group ≡ Some need → group < length needs.groups
 need_within needs group need is = by_case (cases_lt group (length needs.groups))
   where
@@ -35,7 +35,7 @@ need_within needs group need is = by_case (cases_lt group (length needs.groups))
         let none : None ≡ Some need = sym (get_or_past needs.groups group None past) ∙ is in
         absurd (cc)
 
--- bounds of one place that force one number are one bound
+-- bounds at one position that force the same number are equal
 same_bound : (needs : Needs) (count : ℕ) (bound other : Bound) → Forces needs count bound → Forces needs count other → rank needs bound ≡ rank needs other → bound ≡ other
 same_bound needs count (Group group waiting room) (Group other number size) first second there =
     let same : need_at needs.groups group.index ≡ need_at needs.groups other.index = ap (need_at needs.groups) there in

@@ -10,7 +10,7 @@ use Rattle.fleet_index.proofs.RisingLemmas.{Ascends, Ascends-numbers_where, numb
 use Rattle.batch_plan.specs.Nodes.{RiseFrom}
 use Rattle.batch_plan.specs.Changes.{begins}
 
--- a number alone where a test says so
+-- a single number, if a test passes
 abbrev pub only : Bool → ℕ → List ℕ
 only b n = cond b (n ∷ []) []
 
@@ -26,7 +26,7 @@ where_same p q (suc n) same =
     ∙ ap (λ b. numbers_where q n ++ only b n) (same n (omega arith))
     ∙ sym (where_suc q n)
 
--- past the last that passes there is nothing
+-- past the last number that passes, nothing passes
 pub where_short : (p : ℕ → Bool) (m k : ℕ) → ((i : ℕ) → m ≤ i → i < m + k → p i ≡ false) → numbers_where p (m + k) ≡ numbers_where p m
 where_short p m zero none = ap (numbers_where p) (let e : m + 0 ≡ m = omega arith in e)
 where_short p m (suc k) none =
@@ -101,7 +101,7 @@ range_all t (suc n) low i all l h =
     by_case here later (inl e) = ap t (sym e) ∙ here
     by_case here later (inr d) = later (omega (arith, l, d))
 
--- a list, and what goes on after it
+-- a list and its continuation
 pub record GoesOn (front all : List ℕ) : Type 0 where
   pub rest : List ℕ
   pub is : all ≡ front ++ rest
@@ -135,7 +135,7 @@ both true c f g = sym (f refl)
 both false true f g = g refl
 both false false f g = refl
 
--- what passes a test that takes the first of the others' numbers comes first among them
+-- the numbers that pass a test that takes the first of the others come first among them
 pub where_begins : (p w : ℕ → Bool) (n : ℕ) → ((x : ℕ) → x < n → p x ≡ true → w x ≡ true)
     → ((x y : ℕ) → x < y → y < n → p y ≡ true → w x ≡ true → p x ≡ true) → GoesOn (numbers_where p n) (numbers_where w n)
 where_begins p w zero among first = record { rest = []; is = refl }

@@ -12,13 +12,13 @@ use Rattle.batch_plan.specs.Plans.{IsPlan}
 use Rattle.batch_plan.specs.Bounds.{Forces, IsNamedBound}
 use Rattle.batch_plan.specs.Deals.{dealt, waiting_in_order}
 
--- a plan with a bound that forces its number of batches; none has fewer
+-- a plan with a bound that forces its number of batches; no plan has fewer
 pub record IsLeastPlan (groups : List FleetGroup) (statuses : List Status) (cap : Option ℕ) (batches : List (List ℕ)) (bound : Bound) : Type 0 where
   pub plan : IsPlan groups statuses cap batches
   pub forced : Forces (needs_of groups statuses cap) (length batches) bound
   pub least : (others : List (List ℕ)) → IsPlan groups statuses cap others → length batches ≤ length others
 
--- the first limited group with hosts that wait and no room, and how many wait; there is no plan
+-- the first limited group with waiting hosts and no room, and how many wait; there is no plan
 pub record IsFirstBlocked (groups : List FleetGroup) (statuses : List Status) (cap : Option ℕ) (group waiting : ℕ) : Type 0 where
   pub within : group < length groups
   pub blocked : is_blocked (need_of statuses (group_at groups group)) ≡ true
@@ -32,19 +32,19 @@ IsBest fleet statuses cap (Planned plan) =
 IsBest fleet statuses cap (Blocked group waiting) =
     IsFirstBlocked (groups_of fleet) statuses cap group.index waiting
 
--- the batches are dealt, and the bound is the first of those that force the most
+-- the batches are dealt, and the bound is the first of those that force the most batches
 pub record IsDealtPlan (fleet : FleetView) (statuses : List Status) (cap : Option ℕ) (batches : List (List ℕ)) (bound : Bound) : Type 0 where
   pub dealt_are : batches ≡ dealt (waiting_in_order statuses fleet.order) (length batches)
   pub named : IsNamedBound (needs_of (groups_of fleet) statuses cap) (length batches) bound
 
--- the one answer of the rule by which hosts are dealt
+-- the only answer of the rule for dealing hosts
 abbrev pub IsDealtAnswer : FleetView → List Status → Option ℕ → Answer → Type 0
 IsDealtAnswer fleet statuses cap (Planned plan) =
     IsDealtPlan fleet statuses cap plan.batches plan.bound
 IsDealtAnswer fleet statuses cap (Blocked group waiting) =
     IsFirstBlocked (groups_of fleet) statuses cap group.index waiting
 
--- the same batches and the same bound, or the same group with as many hosts that wait
+-- the same batches and the same bound, or the same group with the same number of waiting hosts
 abbrev pub IsSameAnswer : Answer → Answer → Type 0
 IsSameAnswer (Planned plan) (Planned other) =
     (plan.batches ≡ other.batches) × (plan.bound ≡ other.bound)

@@ -1,4 +1,4 @@
--- Where a group stands among trees.
+-- The position of a group among trees.
 use Rattle.std.specs.Prelude.{◌≡◌, ℕ, ◌<◌, ◌≤◌, Bool, true, ◌&&◌, nat_eq, List, map, length, slice_index}
 use Rattle.std.specs.List.{list_any}
 use Rattle.batch_plan.specs.Nodes.{Node, Subtree}
@@ -11,7 +11,7 @@ pub record IsAt (groups : List ℕ) (group place : ℕ) : Type 0 where
   pub within : place < length groups
   pub here : slice_index groups place ≡ group
 
--- the group would stand before this place
+-- the group would come before this position
 pub record IsGap (groups : List ℕ) (group place : ℕ) : Type 0 where
   pub within : place ≤ length groups
   pub less_before : (earlier : ℕ) → earlier < place → slice_index groups earlier < group

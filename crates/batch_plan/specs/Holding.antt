@@ -1,4 +1,4 @@
--- Hosts that are set aside, since a group of theirs has no room.
+-- Hosts that are held because one of their groups has no room.
 use Rattle.std.specs.Prelude.{ℕ, Bool, ◌&&◌, Option, List, length}
 use Rattle.fleet_index.specs.NumberLists.{numbers_where}
 use Rattle.domains.specs.FleetViews.{FleetView}
@@ -11,15 +11,15 @@ use Rattle.batch_plan.specs.declared.answers.Answer.TheVariants.{Planned, Blocke
 use Rattle.batch_plan.specs.Answers.{IsBest}
 use Rattle.batch_plan.specs.Beginnings.{IsReady}
 
--- the host waits, and a group that holds it has no room for it
+-- the host waits, and a group that contains it has no room for it
 abbrev pub waits_without_room : List FleetGroup → List Status → ℕ → Bool
 waits_without_room groups statuses host = is_waiting (status_at statuses host) && lacks_room groups statuses host
 
--- the hosts that are held back, by name
+-- the held hosts, by name
 abbrev pub held_hosts : FleetView → List Status → List ℕ
 held_hosts fleet statuses = numbers_where (waits_without_room (groups_of fleet) statuses) (length fleet.hosts)
 
--- the statuses once these hosts are set aside
+-- the statuses once these hosts are held
 abbrev pub set_aside : List ℕ → List Status → List Status
 set_aside hosts statuses = changed (λ _. Held) hosts statuses
 
@@ -27,7 +27,7 @@ abbrev pub IsPlanned : Answer → Type 0
 IsPlanned (Planned plan) = Unit {0}
 IsPlanned (Blocked group waiting) = ⊥
 
--- once those that are held back are set aside, nothing blocks the others, and a plan may be made of the statuses
+-- once these hosts are held, nothing blocks the others, and a plan can be made of the statuses
 pub record HoldingUnblocks (fleet : FleetView) (statuses : List Status) : Type 0 where
   pub ready : IsReady fleet statuses → IsReady fleet (set_aside (held_hosts fleet statuses) statuses)
   pub planned : (cap : Option ℕ) (answer : Answer) → IsBest fleet (set_aside (held_hosts fleet statuses) statuses) cap answer → IsPlanned answer

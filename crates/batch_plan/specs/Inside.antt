@@ -1,4 +1,5 @@
--- Words of the proofs' steps: the needs of groups as their counts tell them, the best bound so far, a play's hosts.
+-- Definitions for the steps of the proofs: the needs of groups by their counts, the best bound so far, a play's
+-- hosts.
 use Rattle.std.specs.Prelude.{◌≡◌, ℕ, ◌<◌, ◌≤◌, ◌-◌, Bool, false, cond, nat_eq, None, Option, Some, List, [], ◌∷◌, filter, option_map, slice_index_or}
 use Rattle.batch_plan.specs.Counts.{Counted, down_in, place_at, waiting_in}
 use Rattle.batch_plan.specs.Nodes.{Node}
@@ -11,48 +12,48 @@ use Rattle.batch_plan.specs.declared.needs.Need.{Need}
 use Rattle.batch_plan.specs.Needs.{Needs}
 use Rattle.batch_plan.specs.Bounds.{Forces, rank}
 
--- what a group needs by its counts
+-- the need of a group by its counts
 abbrev pub counted_need : Counted → ℕ → Option Need
 counted_need counted group =
     option_map (λ limit. record { waiting = waiting_in counted group; room = limit - down_in counted group }) (slice_index_or counted.fleet.limits group None)
 
--- the same by the node of the group
+-- likewise by the node of the group
 abbrev pub node_need : List (Option ℕ) → Node → Option Need
 node_need limits node =
     option_map (λ limit. record { waiting = node.waiting; room = limit - node.down }) (slice_index_or limits node.group None)
 
--- what is known of a group's need once a node has told that of its own group
+-- what is known of a group's need after a node has recorded that of its own group
 abbrev pub told : List (Option ℕ) → Node → ℕ → Option Need → Option Need
 told limits node group before = cond (nat_eq group node.group) (node_need limits node) before
 
--- the same once all these nodes have
+-- likewise after all these nodes
 abbrev pub told_by : List (Option ℕ) → List Node → ℕ → Option Need → Option Need
 told_by limits [] group before = before
 told_by limits (node ∷ nodes) group before = told_by limits nodes group (told limits node group before)
 
--- the waiting hosts by their places, in the order in which hosts are dealt
+-- the waiting hosts by what they count as, in deal order
 abbrev pub counted_order : Counted → List ℕ
 counted_order counted = filter (λ host. waits (place_at counted.places host)) counted.fleet.order
 
--- of the bounds that come before `end` the first that forces the most, and nothing where none forces any
+-- the first of the bounds before `end` that force the most, or nothing if none forces any
 pub record IsBestBefore (needs : Needs) (end count : ℕ) (bound : Bound) : Type 0 where
   pub forces : 0 < count → Forces needs count bound × (rank needs bound < end)
   pub nothing : count ≡ 0 → bound ≡ Nothing
   pub greatest : (other : Bound) (number : ℕ) → rank needs other < end → Forces needs number other → number ≤ count
   pub first : (other : Bound) → 0 < count → Forces needs count other → rank needs bound ≤ rank needs other
 
--- the bound at this place, and what any bound there forces; 0 where none does
+-- the bound at this position, and what any bound there forces; 0 if none does
 pub record IsCandidate (needs : Needs) (place count : ℕ) (bound : Bound) : Type 0 where
   pub there : rank needs bound ≡ place
   pub forces : 0 < count → Forces needs count bound
   pub only : (other : Bound) (number : ℕ) → rank needs other ≡ place → Forces needs number other → number ≡ count
 
--- the group is limited, and nobody of it may go down
+-- the group has a limit and no room
 abbrev pub is_full : Option Need → Bool
 is_full None = false
 is_full (Some need) = nat_eq need.room 0
 
--- what a host becomes that a play is for
+-- the status of a host that a play targets
 abbrev pub awaited : Status → Status
 awaited Idle = Waiting
 awaited Waiting = Waiting

@@ -1,11 +1,11 @@
--- Limited groups where they stand in the tree, with their counts.
+-- Limited groups at their positions in the tree, with their counts.
 use Rattle.std.specs.Prelude.{ℕ, ◌+◌, ◌≤◌, List, [], ◌∷◌, ◌++◌, map, length}
 use Rattle.std.specs.List.{flat_map}
 use Rattle.std.proofs.Common.{arith, length-append}
 use Rattle.std.proofs.lemmas.List.{length-map}
 use denote.Param.Weighed.{most}
 
--- a limited group, the limited groups that it stands below, outermost first, and how many of its members wait and are down
+-- a limited group, the limited groups above it, outermost first, and how many of its members wait and are down
 pub record Node : Type 0 where
   pub above : List ℕ
   pub group : ℕ
@@ -30,7 +30,7 @@ own_node tree = record { above = []; group = tree.group; waiting = tree.waiting;
 abbrev pub nodes_of : Subtree → List Node
 nodes_of tree = own_node tree ∷ map (under tree.group) tree.below
 
--- several trees side by side, in their order
+-- several trees in sequence
 abbrev pub side_by_side : List Subtree → List Node
 side_by_side trees = flat_map nodes_of trees
 
@@ -41,12 +41,12 @@ path_of node = node.above ++ node.group ∷ []
 abbrev pub groups_in : List Node → List ℕ
 groups_in nodes = map (λ (node : Node). node.group) nodes
 
--- the numbers rise, from `low` on
+-- the numbers rise, starting at `low` or later
 abbrev pub RiseFrom : ℕ → List ℕ → Type 0
 RiseFrom low [] = Unit {0}
 RiseFrom low (number ∷ numbers) = (low ≤ number) × RiseFrom (number + 1) numbers
 
--- the nodes below a tree, which a child has fewer of
+-- the number of nodes below a tree, which is smaller for its children
 abbrev pub nodes_below : Subtree → ℕ
 nodes_below tree = length tree.below
 

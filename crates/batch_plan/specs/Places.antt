@@ -18,17 +18,17 @@ place_of Halted = Down
 place_of Off = Down
 place_of Held = Up
 
--- one status a host, and the counts are those of these statuses
+-- one status per host, and the counts are those of these statuses
 pub record AreCountsOf (statuses : List Status) (counted : Counted) : Type 0 where
   pub all_hosts : length statuses ≡ length counted.fleet.hosts
   pub places : counted.places ≡ map place_of statuses
 
--- all hosts but these have the same status in both
+-- all other hosts have the same status in both
 abbrev pub AreSameBut : List ℕ → List Status → List Status → Type 0
 AreSameBut hosts statuses others =
     (host : ℕ) → has_number host hosts ≡ false → status_at statuses host ≡ status_at others host
 
--- the counts after these hosts, one after the other, were told to count as their statuses
+-- the counts after each of these hosts in turn is set to count as its status
 abbrev pub told_places : List ℕ → List Status → Counted → Counted
 told_places [] statuses counted = counted
 told_places (host ∷ hosts) statuses counted = told_places hosts statuses (moved counted host (place_of (status_at statuses host)))

@@ -1,8 +1,8 @@
-//! What the planner answers.
+//! The planner's answers.
 use crate::batches::Batches;
 use group_tree::GroupId;
 
-/// Why no plan has fewer batches: so many hosts wait, and so many of them may go down at once.
+/// Why no plan has fewer batches: `waiting` hosts wait, and at most `room` of them can go down at once.
 #[derive(Clone, Copy, Debug, PartialEq, Eq)]
 pub enum Bound {
     Group {
@@ -14,13 +14,13 @@ pub enum Bound {
         waiting: usize,
         size: u32,
     },
-    /// Somebody waits.
+    /// At least one host waits.
     OneHost,
-    /// Nobody waits.
+    /// No host waits.
     Nothing,
 }
 
-/// Batches of waiting hosts, and why they are not fewer.
+/// Batches of waiting hosts, and why there are not fewer.
 #[derive(Debug, Drop)]
 pub struct Plan {
     pub batches: Batches,
@@ -30,6 +30,6 @@ pub struct Plan {
 #[derive(Debug, Drop)]
 pub enum Answer {
     Planned(Plan),
-    /// Hosts of this group wait, and none of its hosts may go down.
+    /// Hosts of this group wait, and none of its hosts can go down.
     Blocked { group: GroupId, waiting: usize },
 }

@@ -1,4 +1,4 @@
-//! Batches of hosts, kept as one list.
+//! Batches of hosts, stored as one list.
 ghost use Rattle.std.specs.Prelude.{◌≡◌, ◌↔◌, ◌-◌, ◌<◌, ◌≤◌, ◌++◌, ◌∷◌, IsTrue, [], length, take, drop, OnOk, OnErr};
 ghost use Rattle.fleet_index.specs.NumberLists.{list_at};
 ghost use Rattle.fleet_index.specs.Runs.{AreEnds, runs, start_at};
@@ -8,7 +8,7 @@ use group_tree::HostId;
 use std::alloc::{AllocError, Global};
 use std::marker::Model;
 
-/// Where a batch begins.
+/// Returns where a batch starts.
 fn start_of(ends: &[usize], place: usize) -> usize
     requires { place ≤ length ends.now }
     ensures { result ≡ start_at ends.now place }
@@ -23,8 +23,8 @@ fn part(hosts: &[HostId], start: usize, end: usize) -> &[HostId]
     &hosts[start..end]
 }
 
-/// Batches of hosts, found by their place. They stand one after the other, so that no batch takes memory of its own: a run
-/// keeps the plan of each of its boundaries.
+/// Batches of hosts by index. They are concatenated, so no batch allocates memory of its own: a run stores the plan
+/// of each of its boundaries.
 #[derive(Debug, Drop)]
 pub struct Batches {
     hosts: Vec<HostId>,
@@ -53,7 +53,7 @@ impl Batches {
         }
     }
 
-    /// The batches of these hosts that end where these numbers say.
+    /// Returns the batches of these hosts that end at these positions.
     pub(crate) fn from_ends(hosts: Vec<HostId>, ends: Vec<usize>) -> Batches
         requires { AreEnds (host_numbers hosts.items) ends.items }
         ensures { result ≡ runs (host_numbers hosts.items) ends.items }
@@ -73,7 +73,7 @@ impl Batches {
         self.len() == 0
     }
 
-    /// The batch at a place.
+    /// Returns the batch at an index.
     pub fn at(&self, place: usize) -> &[HostId]
         requires { place < length self.now }
         ensures { host_numbers result.now ≡ list_at self.now place }
@@ -82,14 +82,14 @@ impl Batches {
         part(self.hosts.as_slice(), start_of(ends, place), ends[place])
     }
 
-    /// The first batch, and nobody where there is none.
+    /// Returns the first batch, or no hosts if there is none.
     pub fn first(&self) -> &[HostId]
         ensures { host_numbers result.now ≡ list_at self.now 0 }
     {
         if self.len() > 0 { self.at(0) } else { &[] }
     }
 
-    /// Adds a batch after the others. Want of memory leaves them as they were.
+    /// Adds a batch after the others. If an allocation fails, the others stay as they were.
     pub fn push(&mut self, batch: &[HostId]) -> Result<(), AllocError>
         ensures ok { OnOk result (self.new ≡ self.old ++ host_numbers batch.now ∷ []) }
         ensures err { OnErr result (self.new ≡ self.old) }

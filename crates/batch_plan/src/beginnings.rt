@@ -1,4 +1,4 @@
-//! The statuses with which a play begins.
+//! The statuses at the start of a play.
 ghost use Rattle.std.specs.Prelude.{◌≡◌, ℕ, false, IfOk, []};
 ghost use Rattle.domains.specs.Ids.{host_numbers};
 ghost use Rattle.domains.specs.FleetViews.{IsSound};
@@ -13,14 +13,14 @@ use fleet_states::Status;
 use group_tree::HostId;
 use std::alloc::{AllocError, Global};
 
-/// The status of a host that the first play isn't for.
+/// Returns the status of a host that the first play does not target.
 fn rest_at_start(off: bool) -> Status
     ensures { result ≡ start_status off false }
 {
     if off { Status::Off } else { Status::Idle }
 }
 
-/// The status of a host that a later play isn't for.
+/// Returns the status of a host that a later play does not target.
 fn rest(status: Status) -> Status
     ensures { result ≡ model.restart_status status false }
 {
@@ -30,7 +30,7 @@ fn rest(status: Status) -> Status
     }
 }
 
-/// The status of a host that a play is for.
+/// Returns the status of a host that a play targets.
 fn await_turn(status: Status) -> Status
     ensures { result ≡ awaited status }
 {
@@ -40,7 +40,7 @@ fn await_turn(status: Status) -> Status
     }
 }
 
-/// Makes these hosts wait where they are idle; a number that no host has is passed over.
+/// Makes these hosts wait if they are idle; a number without a host is skipped.
 pub fn await_turns(statuses: &mut Vec<Status>, target: &[HostId])
     ensures { statuses.new.items ≡ changed awaited (host_numbers target.now) statuses.old.items }
 {
@@ -51,7 +51,7 @@ pub fn await_turns(statuses: &mut Vec<Status>, target: &[HostId])
     }
 }
 
-/// All hosts of the fleet as the first play finds them, before anybody waits.
+/// Returns the statuses of all hosts at the start of the first play, before any host waits.
 fn rest_all_at_start(alloc: Global, fleet: &Fleet) -> Result<Vec<Status>, AllocError>
     ensures statuses { IfOk result (λ statuses. statuses.items ≡ start_statuses fleet.now []) }
     ensures sound { IfOk result (λ _. IsSound fleet.now) }
@@ -63,8 +63,9 @@ fn rest_all_at_start(alloc: Global, fleet: &Fleet) -> Result<Vec<Status>, AllocE
     Ok(statuses)
 }
 
-/// The statuses with which a run begins whose first play is for these hosts: off where the host is off, else waiting
-/// where the play is for it, else idle. A host may be named twice. Only want of memory refuses it.
+/// Returns the statuses at the start of a run whose first play targets these hosts. A host that is off is `Off`, any
+/// other targeted host is `Waiting`, and the rest are `Idle`. A host can be named twice. Fails only if an allocation
+/// fails.
 pub fn start(alloc: Global, fleet: &Fleet, target: &[HostId]) -> Result<Vec<Status>, AllocError>
     ensures statuses { IfOk result (λ statuses. statuses.items ≡ start_statuses fleet.now (host_numbers target.now)) }
     ensures ready { IfOk result (λ statuses. IsReady fleet.now statuses.items) }
@@ -74,7 +75,7 @@ pub fn start(alloc: Global, fleet: &Fleet, target: &[HostId]) -> Result<Vec<Stat
     Ok(statuses)
 }
 
-/// All hosts as a later play finds them, before anybody waits.
+/// Returns the statuses of all hosts at the start of a later play, before any host waits.
 fn rest_all(alloc: Global, fleet: &Fleet, statuses: &[Status]) -> Result<Vec<Status>, AllocError>
     ensures { IfOk result (λ next. next.items ≡ restart_statuses statuses.now []) }
 {
@@ -85,9 +86,9 @@ fn rest_all(alloc: Global, fleet: &Fleet, statuses: &[Status]) -> Result<Vec<Sta
     Ok(next)
 }
 
-/// The statuses with which a later play begins that is for these hosts: who failed, was halted or is off stays so; of the
-/// others those wait that the play is for, and the rest are idle. Where nobody runs, nobody comes up or goes down by it. Only
-/// want of memory refuses it.
+/// Returns the statuses at the start of a later play that targets these hosts. Hosts that failed, were halted or are
+/// off stay so. Of the others, the targeted ones wait and the rest are idle. If no host is running, this takes no
+/// host down and brings none up. Fails only if an allocation fails.
 pub fn restart(
     alloc: Global,
     fleet: &Fleet,

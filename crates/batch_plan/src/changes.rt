@@ -1,4 +1,4 @@
-//! A host's change of place, counted on its chain.
+//! A change of what a host counts as, along its chain.
 ghost use Rattle.std.specs.Prelude.{◌≡◌, true, map};
 ghost use Rattle.std.specs.List.{list_all};
 ghost use Rattle.domains.specs.Ids.{group_numbers};
@@ -11,7 +11,8 @@ use crate::place::Place;
 use group_tree::GroupId;
 use std::alloc::Allocator;
 
-/// Counts a host that was in one place in another, in each group of the chain, from the outermost in.
+/// Updates the counts of each group of the chain, outermost first, for a host that counted as `was` and now counts as
+/// `is`.
 pub(crate) fn recount<A: Allocator>(
     trees: &mut [DomTree<A>],
     chain: &[GroupId],

@@ -1,4 +1,4 @@
-//! Whether a plan that was handed in is one, and whether its bound forces its number of batches.
+//! Whether a given plan is valid, and whether its bound forces its number of batches.
 ghost use Rattle.std.specs.Prelude.{◌≡◌, ◌↔◌, IsTrue, length, map, not};
 ghost use Rattle.std.specs.List.{list_all};
 ghost use Rattle.domains.specs.Ids.{host_numbers};
@@ -44,7 +44,7 @@ fn is_waiting_batch(statuses: &[Status], batch: &[HostId]) -> bool
     all_wait(statuses, batch)
 }
 
-/// Whether the batch has somebody, no more than the cap, and only hosts that wait.
+/// Returns whether the batch is not empty, respects the cap, and has only waiting hosts.
 fn keeps_cap(statuses: &[Status], cap: Option<u32>, batch: &[HostId]) -> bool
     ensures { result ≡ model.keeps_cap statuses.now cap (host_numbers batch.now) }
 {
@@ -62,7 +62,8 @@ fn keep_cap(statuses: &[Status], cap: Option<u32>, batches: &Batches) -> bool
     true
 }
 
-/// Whether so many wait and so many may go, both above 0, and need this number of batches.
+/// Returns whether the need has these numbers of waiting hosts and of room, both above 0, and forces this number of
+/// batches.
 fn is_forced(need: Option<Need>, waiting: usize, room: usize, count: usize) -> bool
     ensures { IsTrue result ↔ IsForced need waiting room count }
 {
@@ -74,7 +75,7 @@ fn is_forced(need: Option<Need>, waiting: usize, room: usize, count: usize) -> b
     }
 }
 
-/// What the group needs, where there is one of this number and it has a limit.
+/// Returns the need of the group, if a group has this number and a limit.
 fn need_of_any(fleet: &Fleet, statuses: &[Status], group: GroupId) -> Option<Need>
     ensures { result ≡ needs.need_at (map (needs.need_of statuses.now) (groups_of fleet.now)) group.index }
 {
@@ -85,7 +86,7 @@ fn need_of_any(fleet: &Fleet, statuses: &[Status], group: GroupId) -> Option<Nee
     }
 }
 
-/// Whether the bound is true and forces this number of batches.
+/// Returns whether the bound is true and forces this number of batches.
 fn forces(fleet: &Fleet, statuses: &[Status], cap: Option<u32>, bound: Bound, count: usize) -> bool
     ensures { IsTrue result ↔ Forces (needs_of (groups_of fleet.now) statuses.now cap) count bound }
 {
@@ -122,8 +123,8 @@ fn serial_need(waiting: usize, cap: Option<u32>) -> Option<Need>
     }
 }
 
-/// Whether this is a plan whose bound forces its number of batches, whatever hosts and groups it names; no plan has
-/// fewer batches then. No memory is taken.
+/// Returns whether this is a valid plan whose bound forces its number of batches, whatever hosts and groups it names.
+/// If so, no plan has fewer batches. Does not allocate.
 pub fn check_plan(fleet: &Fleet, statuses: &[Status], cap: Option<u32>, plan: &Plan) -> bool
     requires hosts { length statuses.now ≡ length fleet.now.hosts }
     ensures { IsTrue result ↔ (IsPlan (groups_of fleet.now) statuses.now cap plan.now.batches

@@ -1,4 +1,4 @@
-//! What the counts of a fleet's limited groups say of waiting hosts and of room.
+//! From the counts of a fleet's limited groups to waiting hosts and room.
 ghost use Rattle.std.specs.Prelude.{◌≡◌, ℕ, ◌<◌, ◌++◌, ◌∷◌, [], None, cond, length, map, replicate, slice_index_or, IfOk, OnOk};
 ghost use Rattle.std.specs.List.{range_with_len};
 ghost use Rattle.domains.specs.Ids.{host_numbers};
@@ -17,7 +17,7 @@ use fleet_states::Status;
 use group_tree::{GroupId, HostId};
 use std::alloc::{AllocError, Allocator, Global};
 
-/// What a host of this status counts as: one that waits, one that is down, or one that is up and doesn't wait.
+/// Returns what a host with this status counts as: waiting, down, or up without waiting.
 pub fn place_of(status: Status) -> Place
     ensures { result ≡ model.place_of status }
 {
@@ -28,7 +28,7 @@ pub fn place_of(status: Status) -> Place
     }
 }
 
-/// The counts of a fleet whose hosts have these statuses. Only want of memory refuses them.
+/// Returns the counts of a fleet with these statuses. Fails only if an allocation fails.
 pub fn counted<'f, A: Allocator + Clone>(
     alloc: A,
     fleet: &'f Fleet,
@@ -44,7 +44,7 @@ pub fn counted<'f, A: Allocator + Clone>(
     Ok(domains)
 }
 
-/// What a group needs of which the counts stand, where it has a limit.
+/// Returns the need of a group with these counts, if it has a limit.
 fn need_of<A: Allocator>(fleet: &Fleet, tree: &DomTree<A>) -> Option<Need>
     requires { tree.now.group < length fleet.now.groups }
     ensures { result ≡ node_need fleet.now.limits (own_node tree.now) }
@@ -58,7 +58,7 @@ fn need_of<A: Allocator>(fleet: &Fleet, tree: &DomTree<A>) -> Option<Need>
     }
 }
 
-/// Tells what the group needs, apart from those below it.
+/// Records the need of the group, without those below it.
 fn record_own<A: Allocator>(needs: &mut [Option<Need>], fleet: &Fleet, tree: &DomTree<A>)
     requires { length needs.old ≡ length fleet.now.groups }
     ensures len { length needs.new ≡ length needs.old }
@@ -71,7 +71,7 @@ fn record_own<A: Allocator>(needs: &mut [Option<Need>], fleet: &Fleet, tree: &Do
     }
 }
 
-/// Tells what each of these groups and of those below them needs.
+/// Records the needs of these groups and of those below them.
 fn record_all<A: Allocator>(needs: &mut [Option<Need>], fleet: &Fleet, trees: &[DomTree<A>])
     requires { length needs.old ≡ length fleet.now.groups }
     ensures len { length needs.new ≡ length needs.old }
@@ -84,7 +84,7 @@ fn record_all<A: Allocator>(needs: &mut [Option<Need>], fleet: &Fleet, trees: &[
     }
 }
 
-/// Nothing is known of so many groups.
+/// Returns a list of `groups` unknown needs.
 fn untold(alloc: Global, groups: usize) -> Result<Vec<Option<Need>>, AllocError>
     ensures { IfOk result (λ needs. needs.items ≡ replicate groups None) }
 {
@@ -95,7 +95,7 @@ fn untold(alloc: Global, groups: usize) -> Result<Vec<Option<Need>>, AllocError>
     Ok(needs)
 }
 
-/// What each group needs, in preorder, read off the tree of counts.
+/// Returns the need of each group, in preorder, from the tree of counts.
 pub(crate) fn list_needs<A: Allocator>(
     alloc: Global,
     domains: &Domains<'_, A>,
@@ -109,7 +109,7 @@ pub(crate) fn list_needs<A: Allocator>(
     Ok(needs)
 }
 
-/// Adds the host where it waits.
+/// Adds the host if it waits.
 fn push_waiting(hosts: &mut Vec<HostId>, host: HostId, place: Place) -> Result<(), AllocError>
     ensures { OnOk result (host_numbers hosts.new.items ≡ host_numbers hosts.old.items ++ cond (waits place) (host.index ∷ []) []) }
 {
@@ -119,7 +119,7 @@ fn push_waiting(hosts: &mut Vec<HostId>, host: HostId, place: Place) -> Result<(
     Ok(())
 }
 
-/// The waiting hosts, in the order in which hosts are dealt.
+/// Returns the waiting hosts in deal order.
 pub(crate) fn list_waiting<A: Allocator>(
     alloc: Global,
     domains: &Domains<'_, A>,

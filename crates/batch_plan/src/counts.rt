@@ -1,4 +1,4 @@
-//! The counts of a fleet's limited groups, kept as its hosts' places change.
+//! The counts of a fleet's limited groups, updated as its hosts change.
 ghost use Rattle.std.specs.Prelude.{◌≡◌, ℕ, ◌<◌, true, length, replicate, slice_set, IfOk};
 ghost use Rattle.fleet_index.specs.Chains.{is_limited};
 ghost use Rattle.batch_plan.specs.Nodes.{side_by_side};
@@ -15,8 +15,8 @@ use group_tree::{GroupId, HostId};
 use std::alloc::{AllocError, Allocator};
 use std::marker::Model;
 
-/// How many hosts of each limited group of a fleet wait and are down. A change of one host's place changes the counts
-/// on its chain alone.
+/// The numbers of waiting and down hosts in each limited group of a fleet. A change of one host affects only the
+/// counts on its chain.
 #[derive(Drop)]
 pub struct Domains<'f, A: Allocator> {
     fleet: &'f Fleet,
@@ -35,7 +35,7 @@ impl<'f, A: Allocator> Model for Domains<'f, A> {
 }
 
 impl<'f, A: Allocator + Clone> Domains<'f, A> {
-    /// All hosts of the fleet are up.
+    /// Creates the counts of a fleet whose hosts are all up.
     pub fn new(alloc: A, fleet: &'f Fleet) -> Result<Domains<'f, A>, AllocError>
         ensures { IfOk result (λ domains. domains
             ≡ record { fleet = fleet.now; places = replicate (length fleet.now.hosts) Up }) }
@@ -51,7 +51,7 @@ impl<'f, A: Allocator + Clone> Domains<'f, A> {
 }
 
 impl<'f, A: Allocator> Domains<'f, A> {
-    /// Changes what one host counts as. No memory is taken.
+    /// Changes what one host counts as. Does not allocate.
     pub fn set(&mut self, host: HostId, place: Place)
         requires { host.index < length self.old.fleet.hosts }
         ensures places { self.new ≡ record self.old { places = slice_set self.old.places host.index place } }
@@ -71,7 +71,7 @@ impl<'f, A: Allocator> Domains<'f, A> {
         self.fleet
     }
 
-    /// What the host counts as.
+    /// Returns what the host counts as.
     pub fn place(&self, host: HostId) -> Place
         requires { host.index < length self.now.fleet.hosts }
         ensures { result ≡ place_at self.now.places host.index }
@@ -79,14 +79,14 @@ impl<'f, A: Allocator> Domains<'f, A> {
         self.places[host.index]
     }
 
-    /// The limited groups that stand below no other, in preorder, with those below them.
+    /// Returns the outermost limited groups, in preorder, with those below them.
     pub fn tops(&self) -> &[DomTree<A>]
         ensures { side_by_side result.now ≡ nodes_at self.now }
     {
         self.tops.as_slice()
     }
 
-    /// How many hosts of a limited group wait, and how many are down.
+    /// Returns how many hosts of a limited group wait, and how many are down.
     fn counts(&self, group: GroupId) -> (usize, usize)
         requires { is_limited self.now.fleet.limits group.index ≡ true }
         ensures { result ≡ (waiting_in self.now group.index, down_in self.now group.index) }
@@ -97,7 +97,7 @@ impl<'f, A: Allocator> Domains<'f, A> {
         }
     }
 
-    /// How many hosts of a limited group wait.
+    /// Returns how many hosts of a limited group wait.
     pub fn waiting(&self, group: GroupId) -> usize
         requires { is_limited self.now.fleet.limits group.index ≡ true }
         ensures { result ≡ waiting_in self.now group.index }
@@ -105,7 +105,7 @@ impl<'f, A: Allocator> Domains<'f, A> {
         self.counts(group).0
     }
 
-    /// How many hosts of a limited group are down.
+    /// Returns how many hosts of a limited group are down.
     pub fn down(&self, group: GroupId) -> usize
         requires { is_limited self.now.fleet.limits group.index ≡ true }
         ensures { result ≡ down_in self.now group.index }

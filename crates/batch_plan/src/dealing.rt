@@ -7,7 +7,7 @@ use crate::batches::Batches;
 use group_tree::HostId;
 use std::alloc::{AllocError, Global};
 
-/// Adds the hosts of one batch: of so many batches each gets a host in turn.
+/// Adds the hosts of one batch, if `count` batches each get a host in turn.
 fn deal_to(
     dealt: &mut Vec<HostId>,
     hosts: &[HostId],
@@ -25,7 +25,7 @@ fn deal_to(
     Ok(())
 }
 
-/// Deals the hosts to so many batches, one host to each in turn. What is returned takes no more memory than it needs.
+/// Deals the hosts to `count` batches, one host to each in turn. The result allocates no more memory than it needs.
 pub(crate) fn deal(alloc: Global, hosts: &[HostId], count: usize) -> Result<Batches, AllocError>
     requires { 0 < length hosts.now → 0 < count }
     ensures { IfOk result (λ batches. batches ≡ dealt (host_numbers hosts.now) count) }

@@ -1,4 +1,4 @@
-//! Finding a group among trees, by halving.
+//! Binary search for a group among trees.
 ghost use Rattle.std.specs.Prelude.{◌≡◌, ◌<◌, ◌≤◌, MatchOption, MatchResult, IfErr, IfOk, false, map, length};
 ghost use Rattle.fleet_index.specs.NumberLists.{has_number};
 ghost use Rattle.batch_plan.specs.Nodes.{side_by_side, groups_in, RiseFrom};
@@ -8,7 +8,7 @@ use crate::node::DomTree;
 use group_tree::GroupId;
 use std::alloc::Allocator;
 
-/// Where the group stands among the trees' own, or the first tree after it.
+/// Returns the index of the tree of this group, or of the first tree after it.
 pub(crate) fn search<A: Allocator>(trees: &[DomTree<A>], group: GroupId) -> Result<usize, usize>
     requires { RiseFrom 0 (tops_of trees.now) }
     ensures { MatchResult result (IsAt (tops_of trees.now) group.index) (IsGap (tops_of trees.now) group.index) }
@@ -16,7 +16,7 @@ pub(crate) fn search<A: Allocator>(trees: &[DomTree<A>], group: GroupId) -> Resu
     trees.binary_search_by_key(&group.index, |tree| tree.group().index)
 }
 
-/// The group's own tree, among these trees or below one of them.
+/// Returns the group's own tree, among these trees or below one of them.
 pub(crate) fn find<A: Allocator>(trees: &[DomTree<A>], group: GroupId) -> Option<&DomTree<A>>
     requires { RiseFrom 0 (groups_in (side_by_side trees.now)) }
     ensures { MatchOption result (has_number group.index (groups_in (side_by_side trees.now)) ≡ false)

@@ -1,4 +1,4 @@
-//! Hosts that are set aside, so that nothing blocks the others.
+//! Hosts that are held, so that nothing blocks the others.
 ghost use Rattle.std.specs.Prelude.{◌≡◌, ◌<◌, ◌∷◌, ◌++◌, IfOk, OnOk, [], cond, length, map};
 ghost use Rattle.std.specs.List.{list_any};
 ghost use Rattle.domains.specs.FleetViews.{IsSound};
@@ -37,14 +37,14 @@ fn is_full_at(needs: &[Option<Need>], group: GroupId) -> bool
     }
 }
 
-/// Whether nobody of one of these groups may go down.
+/// Returns whether one of these groups has no room.
 fn has_full(needs: &[Option<Need>], chain: &[GroupId]) -> bool
     ensures { result ≡ list_any (λ group. inside.is_full (need_at needs.now group.index)) chain.now }
 {
     chain.iter().any(|group| is_full_at(needs, *group))
 }
 
-/// Whether the host waits and a group of its chain has no room.
+/// Returns whether the host waits and a group of its chain has no room.
 fn waits_without_room(
     fleet: &Fleet,
     statuses: &[Status],
@@ -59,7 +59,7 @@ fn waits_without_room(
     status_of(statuses, host).is_waiting() && has_full(needs, fleet.chain(host))
 }
 
-/// Adds the host where it is held back.
+/// Adds the host if it is held.
 fn push_where(hosts: &mut Vec<HostId>, host: HostId, held: bool) -> Result<(), AllocError>
     ensures { OnOk result (host_numbers hosts.new.items ≡ host_numbers hosts.old.items ++ cond held (host.index ∷ []) []) }
 {
@@ -89,9 +89,9 @@ fn list_held(
     Ok(hosts)
 }
 
-/// The waiting hosts that a limited group without room holds, by name, for a fleet of which the counts stand. Once they are
-/// set aside, no plan is blocked. Where no group with waiting hosts is full, only the groups are looked at, and no host. Only
-/// want of memory refuses it.
+/// Returns the waiting hosts in limited groups without room, by name, for a fleet with these counts. Once they are
+/// held, no plan is blocked. If no group with waiting hosts is full, this reads only the groups and no host. Fails
+/// only if an allocation fails.
 pub fn held_over<A: Allocator>(
     alloc: Global,
     domains: &Domains<'_, A>,
@@ -108,8 +108,8 @@ pub fn held_over<A: Allocator>(
     }
 }
 
-/// The waiting hosts that a limited group without room holds, by name. Once they are set aside, no plan is blocked. Only
-/// want of memory refuses it.
+/// Returns the waiting hosts in limited groups without room, by name. Once they are held, no plan is blocked. Fails
+/// only if an allocation fails.
 pub fn held(alloc: Global, fleet: &Fleet, statuses: &[Status]) -> Result<Vec<HostId>, AllocError>
     requires { length statuses.now ≡ length fleet.now.hosts }
     ensures hosts { IfOk result (λ hosts. host_numbers hosts.items ≡ held_hosts fleet.now statuses.now) }
@@ -119,7 +119,7 @@ pub fn held(alloc: Global, fleet: &Fleet, statuses: &[Status]) -> Result<Vec<Hos
     held_over(alloc, &domains, statuses)
 }
 
-/// Sets these hosts aside; a number that no host has is passed over.
+/// Holds these hosts; a number without a host is skipped.
 pub fn set_aside(statuses: &mut [Status], hosts: &[HostId])
     ensures { statuses.new ≡ model.set_aside (host_numbers hosts.now) statuses.old }
 {

@@ -1,4 +1,4 @@
-//! The planner: counts of limited groups, the fewest batches over them, why they are not fewer, and the check of a plan from elsewhere.
+//! The planner: counts of limited groups, the fewest batches, why there are not fewer, and the check of a given plan.
 #![tactic(auto)]
 
 pub mod answers;

@@ -1,4 +1,4 @@
-//! How often each host stands in batches.
+//! How often each host appears in batches.
 ghost use Rattle.std.specs.Prelude.{◌≡◌, ℕ, ◌+◌, ◌<◌, ◌≤◌, ◌↔◌, IsTrue, cond, count_by, length, min, nat_eq, slice_index};
 ghost use Rattle.domains.specs.Ids.{host_numbers};
 ghost use Rattle.batch_plan.specs.Plans.{times_in};
@@ -10,7 +10,7 @@ use domains::HOSTS_BOUND;
 use fleet_states::{Status, status_of};
 use group_tree::HostId;
 
-/// Counts the host once more, where it has a mark. More than twice is as good as twice.
+/// Counts the host once more, if it has a mark. Counts above 2 need not be exact.
 fn mark_host(marks: &mut [u8], host: HostId)
     ensures len { length marks.new ≡ length marks.old }
     ensures times { (other : ℕ) → other < length marks.old
@@ -41,7 +41,7 @@ fn mark_all(marks: &mut [u8], batches: &Batches)
     }
 }
 
-/// How often the host should stand in the batches.
+/// Returns how often the host should appear in the batches.
 fn due(statuses: &[Status], host: HostId) -> u8
     ensures { result ≡ model.due statuses.now host.index }
 {
@@ -52,7 +52,7 @@ fn due(statuses: &[Status], host: HostId) -> u8
     }
 }
 
-/// Whether each host that has a status has the mark that it should.
+/// Returns whether each host that has a status has the mark that it should have.
 fn are_as_due(statuses: &[Status], marks: &[u8]) -> bool
     requires { length statuses.now ≤ length marks.now }
     ensures { IsTrue result ↔ ((host : ℕ) → host < length statuses.now → slice_index marks.now host ≡ model.due statuses.now host) }
@@ -65,7 +65,7 @@ fn are_as_due(statuses: &[Status], marks: &[u8]) -> bool
     true
 }
 
-/// Whether each host that waits stands in the batches once, and no other host that has a status does.
+/// Returns whether each waiting host appears once in the batches, and no other host with a status appears.
 pub(crate) fn stand_once(statuses: &[Status], batches: &Batches) -> bool
     requires { length statuses.now ≤ 4096 }
     ensures { IsTrue result ↔ StandOnce statuses.now batches.now }

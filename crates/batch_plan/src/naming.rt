@@ -1,4 +1,4 @@
-//! The bound that is named beside a plan.
+//! The bound that is named with a plan.
 ghost use Rattle.std.specs.Prelude.{◌≡◌, ℕ, ◌+◌, ◌<◌, false, true, length, IfSome, MatchOption, Some};
 ghost use Rattle.batch_plan.specs.Needs as model;
 ghost use Rattle.batch_plan.specs.Needs.{Needs, need_at, serial_need};
@@ -9,14 +9,14 @@ use crate::answers::Bound;
 use crate::needs::Need;
 use group_tree::GroupId;
 
-/// A bound, and how many batches it forces.
+/// A bound, and the number of batches that it forces.
 #[derive(Clone, Copy)]
 pub(crate) struct Best {
     pub(crate) bound: Bound,
     pub(crate) count: usize,
 }
 
-/// The bound that comes next where it forces more than the best so far.
+/// Returns the next bound if it forces more batches than the best one so far, otherwise the best one.
 fn better(best: Best, bound: Bound, count: usize) -> Best
     ensures { (needs : Needs) (end : ℕ) → IsBestBefore needs end best.count best.bound → IsCandidate needs end count bound
         → IsBestBefore needs (end + 1) result.count result.bound }
@@ -28,7 +28,7 @@ fn better(best: Best, bound: Bound, count: usize) -> Best
     }
 }
 
-/// With one more group, where it has a limit.
+/// Takes one more group into account, if it has a limit.
 fn with_group(best: Best, group: GroupId, need: Option<Need>) -> Best
     ensures { (needs : Needs) → need_at needs.groups group.index ≡ need → group.index < length needs.groups
         → IsBestBefore needs group.index best.count best.bound → IsBestBefore needs (group.index + 1) result.count result.bound }
@@ -46,7 +46,7 @@ fn with_group(best: Best, group: GroupId, need: Option<Need>) -> Best
     }
 }
 
-/// Of the groups' bounds the first that forces the most.
+/// Returns the first of the groups' bounds that forces the most batches.
 fn best_of_groups(needs: &[Option<Need>]) -> Best
     ensures { (state : Needs) → state.groups ≡ needs.now → IsBestBefore state (length needs.now) result.count result.bound }
 {
@@ -60,7 +60,7 @@ fn best_of_groups(needs: &[Option<Need>]) -> Best
     best
 }
 
-/// With the greatest size of a batch, where there is one.
+/// Takes the cap on the size of a batch into account, if there is one.
 fn with_serial(best: Best, waiting: usize, cap: Option<u32>) -> Best
     ensures { (needs : Needs) → needs.serial ≡ serial_need waiting cap
         → IsBestBefore needs (length needs.groups) best.count best.bound → IsBestBefore needs (length needs.groups + 1) result.count result.bound }
@@ -77,7 +77,7 @@ fn with_serial(best: Best, waiting: usize, cap: Option<u32>) -> Best
     }
 }
 
-/// The first of the bounds that force the most, and the number that it forces.
+/// Returns the first of the bounds that force the most batches, and that number.
 pub(crate) fn name_bound(needs: &[Option<Need>], waiting: usize, cap: Option<u32>) -> Best
     ensures { IsNamedBound (record { groups = needs.now; serial = serial_need waiting cap; waiting = waiting }) result.count result.bound }
 {
@@ -85,7 +85,7 @@ pub(crate) fn name_bound(needs: &[Option<Need>], waiting: usize, cap: Option<u32
     better(best, Bound::OneHost, waiting.min(1))
 }
 
-/// How many wait, where some do and none may go down.
+/// Returns how many hosts wait, if some do and none can go down.
 fn count_blocked(need: Option<Need>) -> Option<usize>
     ensures { MatchOption result (model.is_blocked need ≡ false)
         (λ waiting. (model.is_blocked need ≡ true) × (need ≡ Some (record { waiting = waiting; room = 0 }))) }
@@ -96,7 +96,7 @@ fn count_blocked(need: Option<Need>) -> Option<usize>
     }
 }
 
-/// The first group of which hosts wait and none may go down, and how many wait.
+/// Returns the first group that has waiting hosts and no room, and how many wait.
 pub(crate) fn first_blocked(needs: &[Option<Need>]) -> Option<(GroupId, usize)>
     ensures { MatchOption result ((group : ℕ) → group < length needs.now → model.is_blocked (need_at needs.now group) ≡ false)
         (λ found. (found.0.index < length needs.now) × (model.is_blocked (need_at needs.now found.0.index) ≡ true)

@@ -1,8 +1,8 @@
-//! Hosts that wait, and how many of them may go down at once.
+//! Waiting hosts, and how many of them can go down at once.
 ghost use Rattle.std.specs.Prelude.{◌≡◌, Some};
 ghost use Rattle.batch_plan.specs.Needs as model;
 
-/// So many hosts wait, and so many of them may go down at once.
+/// This many hosts wait, and this many of them can go down at once.
 #[derive(Clone, Copy)]
 pub(crate) struct Need {
     pub(crate) waiting: usize,
@@ -10,14 +10,14 @@ pub(crate) struct Need {
 }
 
 impl Need {
-    /// Whether somebody waits and nobody may go down.
+    /// Returns whether a host waits and none can go down.
     pub(crate) fn is_blocked(self) -> bool
         ensures { result ≡ model.is_blocked (Some self) }
     {
         self.waiting > 0 && self.room == 0
     }
 
-    /// The fewest batches in which those that wait go; 0 where there is no room.
+    /// Returns the fewest batches for the waiting hosts; 0 if there is no room.
     pub(crate) fn fewest(self) -> usize
         ensures { result ≡ model.fewest (Some self) }
     {
@@ -29,7 +29,7 @@ impl Need {
     }
 }
 
-/// Whether somebody waits where nobody may go down.
+/// Returns whether there is a need with a waiting host and no room.
 pub(crate) fn is_blocked(need: Option<Need>) -> bool
     ensures { result ≡ model.is_blocked need }
 {
@@ -39,7 +39,7 @@ pub(crate) fn is_blocked(need: Option<Need>) -> bool
     }
 }
 
-/// The fewest batches for a need, and 0 for none.
+/// Returns the fewest batches for a need, or 0 for none.
 pub(crate) fn fewest(need: Option<Need>) -> usize
     ensures { result ≡ model.fewest need }
 {

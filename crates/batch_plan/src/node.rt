@@ -6,7 +6,7 @@ use group_tree::GroupId;
 use std::alloc::Allocator;
 use std::marker::Model;
 
-/// A limited group, how many of its hosts wait and are down, and the limited groups next below it.
+/// A limited group, the numbers of its waiting and down hosts, and the limited groups directly below it.
 #[derive(Drop)]
 pub struct DomTree<A: Allocator> {
     pub(crate) group: GroupId,
@@ -29,7 +29,7 @@ impl<A: Allocator> Model for DomTree<A> {
 }
 
 impl<A: Allocator> DomTree<A> {
-    /// A limited group without hosts that wait or are down, and without groups below it.
+    /// Creates a limited group without waiting or down hosts, and without groups below it.
     pub(crate) fn new(alloc: A, group: GroupId) -> DomTree<A>
         ensures { result ≡ record { group = group.index; waiting = 0; down = 0; below = side_by_side [] } }
     {
@@ -47,21 +47,21 @@ impl<A: Allocator> DomTree<A> {
         self.group
     }
 
-    /// How many hosts of the group wait.
+    /// Returns how many hosts of the group wait.
     pub fn waiting(&self) -> usize
         ensures { result ≡ self.now.waiting }
     {
         self.waiting
     }
 
-    /// How many hosts of the group are down.
+    /// Returns how many hosts of the group are down.
     pub fn down(&self) -> usize
         ensures { result ≡ self.now.down }
     {
         self.down
     }
 
-    /// The limited groups next below this one, in preorder.
+    /// Returns the limited groups directly below this one, in preorder.
     pub fn children(&self) -> &[DomTree<A>]
         ensures { side_by_side result.now ≡ self.now.below }
     {

@@ -1,4 +1,4 @@
-//! Where a host stands for the counts.
+//! What a host counts as.
 ghost use Rattle.std.specs.Prelude.{◌≡◌};
 ghost use Rattle.fleet_index.specs.NumberLists.{bit};
 ghost use Rattle.batch_plan.specs.CountPlaces.{waits, is_down};
@@ -12,7 +12,7 @@ pub enum Place {
 }
 
 impl Place {
-    /// How many waiting hosts a host of this place is.
+    /// Returns 1 if the host waits, otherwise 0.
     pub(crate) fn waiting(self) -> usize
         ensures { result ≡ bit (waits self) }
     {
@@ -22,7 +22,7 @@ impl Place {
         }
     }
 
-    /// How many hosts that are down a host of this place is.
+    /// Returns 1 if the host is down, otherwise 0.
     pub(crate) fn down(self) -> usize
         ensures { result ≡ bit (is_down self) }
     {

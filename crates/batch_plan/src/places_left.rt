@@ -1,4 +1,4 @@
-//! How many more hosts of each limited group a batch has room for.
+//! The room that a batch leaves in each limited group.
 ghost use Rattle.std.specs.Prelude.{◌≡◌, ◌↔◌, ℕ, ◌+◌, ◌<◌, ◌≤◌, ◌^◌, IsTrue, true, cond, length, slice_index};
 ghost use Rattle.std.specs.List.{list_all};
 ghost use Rattle.fleet_index.specs.NumberLists.{IsRising, are_below, has_number, list_at};
@@ -15,10 +15,10 @@ use fleet_index::raise_counts;
 use fleet_states::Status;
 use group_tree::{GroupId, HostId};
 
-/// A fleet has so many groups at most.
+/// A fleet has at most this many groups.
 const GROUPS_BOUND: usize = 1024;
 
-/// Takes a place of each of these groups; false where one has none left.
+/// Takes room for one host from each of these groups; returns false if one has none left.
 fn take(left: &mut [usize], chain: &[GroupId]) -> bool
     requires { IsRising (length left.old) (group_numbers chain.now) }
     ensures len { length left.new ≡ length left.old }
@@ -35,7 +35,7 @@ fn take(left: &mut [usize], chain: &[GroupId]) -> bool
     true
 }
 
-/// Takes the places of all these hosts; false where a group has too few left.
+/// Takes room for all these hosts; returns false if a group has too little left.
 fn take_all(fleet: &Fleet, left: &mut [usize], batch: &[HostId]) -> bool
     requires len { length left.old ≡ length fleet.now.groups }
     requires within { are_below (length fleet.now.hosts) (host_numbers batch.now) ≡ true }
@@ -52,7 +52,7 @@ fn take_all(fleet: &Fleet, left: &mut [usize], batch: &[HostId]) -> bool
     true
 }
 
-/// Gives the places of all these hosts back.
+/// Gives back the room of all these hosts.
 fn give_back_all(fleet: &Fleet, left: &mut [usize], batch: &[HostId])
     requires len { length left.old ≡ length fleet.now.groups }
     requires within { are_below (length fleet.now.hosts) (host_numbers batch.now) ≡ true }
@@ -67,7 +67,7 @@ fn give_back_all(fleet: &Fleet, left: &mut [usize], batch: &[HostId])
     }
 }
 
-/// Whether each group has places for all these hosts that are members of it. Where it has, the places are as before.
+/// Returns whether each group has room for all its members among these hosts. If so, the room stays as before.
 fn fits(fleet: &Fleet, left: &mut [usize], batch: &[HostId]) -> bool
     requires len { length left.old ≡ length fleet.now.groups }
     requires within { are_below (length fleet.now.hosts) (host_numbers batch.now) ≡ true }
@@ -82,7 +82,7 @@ fn fits(fleet: &Fleet, left: &mut [usize], batch: &[HostId]) -> bool
     true
 }
 
-/// How many more hosts of the group may go down; 0 where it has no limit.
+/// Returns how many more hosts of the group can go down; 0 if it has no limit.
 fn places(fleet: &Fleet, statuses: &[Status], group: GroupId) -> usize
     requires { group.index < length fleet.now.groups }
     ensures places { result ≡ places_in fleet.now statuses.now group.index }
@@ -105,7 +105,7 @@ fn fill(fleet: &Fleet, statuses: &[Status], left: &mut [usize])
     }
 }
 
-/// Whether each group has places for all its members of each batch.
+/// Returns whether each group has room for all its members of each batch.
 fn all_fit(fleet: &Fleet, left: &mut [usize], batches: &Batches) -> bool
     requires len { length left.old ≡ length fleet.now.groups }
     requires within { list_all (are_below (length fleet.now.hosts)) batches.now ≡ true }
@@ -129,8 +129,8 @@ fn keep_places(fleet: &Fleet, statuses: &[Status], left: &mut [usize], batches: 
     all_fit(fleet, left, batches)
 }
 
-/// Whether no batch has more hosts of a group than that has room for. Each host is looked at as often as it has limited
-/// groups, and each group's members once.
+/// Returns whether every batch is within the room of each group. Each host is visited once for each of its limited
+/// groups, and each group's members are visited once.
 pub(crate) fn keep_room(fleet: &Fleet, statuses: &[Status], batches: &Batches) -> bool
     requires { list_all (are_below (length fleet.now.hosts)) batches.now ≡ true }
     ensures sound { IsSound fleet.now }

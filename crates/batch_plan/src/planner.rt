@@ -13,8 +13,8 @@ use domains::Fleet;
 use fleet_states::Status;
 use std::alloc::{AllocError, Allocator, Global};
 
-/// The plan with the fewest batches for a fleet of which the counts stand, or the first group that blocks every plan.
-/// Only want of memory refuses it.
+/// Returns the plan with the fewest batches for a fleet with these counts, or the first group that blocks every plan.
+/// Fails only if an allocation fails.
 pub fn plan_over<A: Allocator>(
     alloc: Global,
     domains: &Domains<'_, A>,
@@ -37,8 +37,9 @@ pub fn plan_over<A: Allocator>(
     }))
 }
 
-/// The plan with the fewest batches while failed hosts stay down, with the bound that forces their number, or the first
-/// limited group that has waiting hosts and no room. Only want of memory refuses it.
+/// Returns the plan with the fewest batches while failed hosts stay down, with the bound that forces their number. If
+/// there is no plan, it returns the first limited group that has waiting hosts and no room. Fails only if an
+/// allocation fails.
 pub fn plan(
     alloc: Global,
     fleet: &Fleet,

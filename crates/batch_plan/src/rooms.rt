@@ -1,4 +1,4 @@
-//! How many hosts of a group wait, and how many may go down. None of these calls takes memory.
+//! How many hosts of a group wait, and how many can go down. None of these calls allocates.
 ghost use Rattle.std.specs.Prelude.{◌≡◌, ◌<◌, ◌^◌, IfSome, length};
 ghost use Rattle.fleet_states.specs.Statuses.{waiting_count};
 ghost use Rattle.fleet_states.specs.Groups.{group_at, groups_of};
@@ -10,7 +10,7 @@ use domains::Fleet;
 use fleet_states::{Status, count_down, count_waiting};
 use group_tree::GroupId;
 
-/// How many of the group's hosts wait.
+/// Returns how many of the group's hosts wait.
 pub fn waiting(fleet: &Fleet, statuses: &[Status], group: GroupId) -> usize
     requires { group.index < length fleet.now.groups }
     ensures { result ≡ waiting_count statuses.now (group_at (groups_of fleet.now) group.index).members }
@@ -18,7 +18,7 @@ pub fn waiting(fleet: &Fleet, statuses: &[Status], group: GroupId) -> usize
     count_waiting(statuses, fleet.members(group))
 }
 
-/// How many more of the group's hosts may go down, where it has a limit; 0 where as many are down or more.
+/// Returns how many more of the group's hosts can go down, if it has a limit; 0 if the limit is reached or exceeded.
 pub fn room(fleet: &Fleet, statuses: &[Status], group: GroupId) -> Option<usize>
     requires { group.index < length fleet.now.groups }
     ensures room { result ≡ model.room statuses.now (group_at (groups_of fleet.now) group.index) }
@@ -33,7 +33,7 @@ pub fn room(fleet: &Fleet, statuses: &[Status], group: GroupId) -> Option<usize>
     }
 }
 
-/// What the group needs, where it has a limit.
+/// Returns the need of the group, if it has a limit.
 pub(crate) fn need_in(fleet: &Fleet, statuses: &[Status], group: GroupId) -> Option<Need>
     requires { group.index < length fleet.now.groups }
     ensures { result ≡ need_of statuses.now (group_at (groups_of fleet.now) group.index) }
@@ -47,7 +47,7 @@ pub(crate) fn need_in(fleet: &Fleet, statuses: &[Status], group: GroupId) -> Opt
     }
 }
 
-/// How many of all hosts wait.
+/// Returns how many of all hosts wait.
 pub(crate) fn count_all(statuses: &[Status]) -> usize
     ensures { result ≡ total_waiting statuses.now }
 {

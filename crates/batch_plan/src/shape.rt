@@ -1,4 +1,4 @@
-//! The tree's shape, grown in preorder.
+//! The shape of the tree, built in preorder.
 ghost use Rattle.std.specs.Prelude.{◌≡◌, ◌+◌, ◌≤◌, ◌<◌, ◌++◌, ◌∷◌, [], length, take, IfOk, OnOk};
 ghost use Rattle.batch_plan.specs.Nodes.{own_node, side_by_side};
 ghost use Rattle.fleet_index.specs.Chains.{is_limited};
@@ -12,7 +12,7 @@ use domains::Fleet;
 use group_tree::GroupId;
 use std::alloc::{AllocError, Allocator};
 
-/// Puts a tree without children after all others, so many groups deep on the way down to the last of them.
+/// Appends a tree without children after all others, `depth` levels down along the last trees.
 fn append<A: Allocator>(
     trees: &mut Vec<DomTree<A>, A>,
     depth: usize,
@@ -33,7 +33,7 @@ fn append<A: Allocator>(
     }
 }
 
-/// 1 where the parent has a limit, else 0.
+/// Returns 1 if the parent has a limit, otherwise 0.
 fn limit_count(fleet: &Fleet, parent: GroupId) -> usize
     requires { parent.index < length fleet.now.groups }
     ensures { result ≡ bit (is_limited fleet.now.limits parent.index) }
@@ -44,7 +44,7 @@ fn limit_count(fleet: &Fleet, parent: GroupId) -> usize
     }
 }
 
-/// How many limited groups a group stands below.
+/// Returns the number of limited groups above a group.
 fn depth_of(fleet: &Fleet, group: GroupId) -> usize
     requires within { group.index < length fleet.now.groups }
     requires sound { IsSound fleet.now }
@@ -56,7 +56,7 @@ fn depth_of(fleet: &Fleet, group: GroupId) -> usize
     }
 }
 
-/// Puts the next group in preorder after those before it, where it has a limit.
+/// Appends the next group in preorder after the earlier ones, if it has a limit.
 fn append_group<A: Allocator>(
     alloc: A,
     fleet: &Fleet,
@@ -74,7 +74,7 @@ fn append_group<A: Allocator>(
     }
 }
 
-/// The fleet's limited groups as trees, in preorder, with nobody counted.
+/// Returns the fleet's limited groups as trees, in preorder, with all counts at 0.
 pub(crate) fn grow<A: Allocator + Clone>(
     alloc: A,
     fleet: &Fleet,

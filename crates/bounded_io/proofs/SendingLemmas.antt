@@ -1,4 +1,4 @@
--- Bytes that go out one after another.
+-- Bytes that are written in sequence.
 use Rattle.std.proofs.Common.{ℕ, ◌+◌, ◌-◌, ◌≤◌, List, ◌++◌, length, take, drop, sym, ap, subst, ◌∙◌, arith, append_assoc, length-take, length-append}
 use Rattle.std.specs.Prelude.{Option}
 use Rattle.std.specs.Io.KnownBytes.{Appends, Keeps}
@@ -6,7 +6,7 @@ use Rattle.std.proofs.KnownBytes.{Appends-trans, Appends-kept}
 use lib.Seq.{take-add, take-take}
 use Rattle.bounded_io.specs.Sending.{Sends}
 
--- some more bytes after those that went out so far
+-- some more bytes after those written so far
 pub more_sent : (a b c : Option (List ℕ)) (xs : List ℕ) (done n : ℕ) → n ≤ length (take (length xs - done) (drop done xs))
     → Appends a b (take done xs) → Appends b c (take n (take (length xs - done) (drop done xs))) → Appends a c (take (done + n) xs)
 more_sent a b c xs done n fits before more =
@@ -14,7 +14,7 @@ more_sent a b c xs done n fits before more =
     let joined = ap (λ l. take done xs ++ l) (take-take n (length xs - done) (drop done xs) (omega arith)) ∙ sym (take-add done n xs) in
     subst (Appends a c) joined (Appends-trans a b c _ _ before more)
 
--- what was left of the first bytes goes out with those after them
+-- the rest of the first bytes is written with those after them
 pub sends_on : {a b c : Option (List ℕ)} {m n o : ℕ} {xs mid rest : List ℕ} (ys : List ℕ) → Sends a b m n xs mid → Sends b c n o (mid ++ ys) rest → Sends a c m o (xs ++ ys) rest
 sends_on {a} {b} {c} {m} {n} {o} {xs} {mid} {rest} ys p q = record {
   front = p.front ++ q.front;
@@ -23,7 +23,7 @@ sends_on {a} {b} {c} {m} {n} {o} {xs} {mid} {rest} ys p q = record {
   count = omega (arith, p.count, q.count, length-append p.front q.front);
 }
 
--- bytes after those that are left are left too
+-- bytes after the remaining ones remain too
 pub leaves_more : {a b : Option (List ℕ)} {m n : ℕ} {xs rest : List ℕ} (ys : List ℕ) → Sends a b m n xs rest → Sends a b m n (xs ++ ys) (rest ++ ys)
 leaves_more {rest = rest} ys p = record {
   front = p.front;
@@ -32,7 +32,7 @@ leaves_more {rest = rest} ys p = record {
   count = p.count;
 }
 
--- a writer that stays as it is afterwards
+-- a writer that does not change afterward
 pub sends_no_more : {a b : Option (List ℕ)} (c : Option (List ℕ)) {m n : ℕ} {xs rest : List ℕ} → Sends a b m n xs rest → Keeps b c → Sends a c m n xs rest
 sends_no_more {a} {b} c p kept = record {
   front = p.front;

@@ -1,4 +1,4 @@
--- Texts that are written one after another.
+-- Texts that are written in sequence.
 use Rattle.std.proofs.Common.{◌≡◌, ℕ, List, [], ◌++◌, length, take, Ok, Err, Result, refl, sym, ap, subst, ◌∙◌, arith, append_assoc, append-nil, length-append}
 use Rattle.std.specs.Prelude.{Option}
 use Rattle.std.specs.Result.{result_and}
@@ -15,7 +15,7 @@ Passes-none : (a : Option (List ℕ)) (s : Result ℕ WriteFault) (held : List �
 Passes-none a (Ok n) held = record { front = []; parts = append-nil held; sent = Appends-nil a; count = omega arith }
 Passes-none a (Err fault) held = (Keeps-refl a, refl)
 
--- after a fault, what comes later changes nothing
+-- after an error, later input changes nothing
 breaks_off_for_good : {a b : Option (List ℕ)} (c : Option (List ℕ)) {m : ℕ} {fault : WriteFault} {xs : List ℕ} (ys : List ℕ) (s : Result ℕ WriteFault) (held : List ℕ)
     → BreaksOff a b m fault.written xs → Keeps b c → s ≡ Err fault → Passes a c (Ok m) s (xs ++ ys) held
 breaks_off_for_good c ys (Ok n) held p kept e = cc
@@ -39,7 +39,7 @@ Passes-join a b c (Err fault) (Err later) t xs ys mid rest p q =
 pub writes_none : {W : Type 0} (contents : W → Option (List ℕ)) (text : TextWriter W) → Writes contents text text []
 writes_none contents text = record { same_reference = refl; passes = Passes-none _ text.sent text.held }
 
--- two texts, one after the other
+-- two texts in sequence
 pub writes_two : {W : Type 0} (contents : W → Option (List ℕ)) (f g h : TextWriter W) (a b all : List ℕ)
     → Writes contents f g a → Writes contents g h b → a ++ b ≡ all → Writes contents f h all
 writes_two contents f g h a b all p q e = record {
@@ -64,7 +64,7 @@ same_outcome : (a b : Option (List ℕ)) (s : Result ℕ WriteFault) (text : Lis
 same_outcome a b (Ok n) text p = p
 same_outcome a b (Err fault) text p = p
 
--- a fresh writer was given a text, and then sent what it held
+-- a fresh writer received a text, and then wrote what it had buffered
 pub finished : {W : Type 0} (contents : W → Option (List ℕ)) (last : TextWriter W) (new : Option (List ℕ)) (sent : Result ℕ WriteFault)
     → Passes (contents last.out.now) new last.sent sent last.held [] → Finishes contents last new (result_and {U = Unit {0}} sent (Ok tt))
 finished contents last new sent q out first text begins p =

@@ -1,9 +1,9 @@
-//! Bytes that wait for one larger write.
+//! Bytes buffered for one larger write.
 ghost use Rattle.std.specs.Prelude.{◌≡◌, ◌≤◌, ◌+◌, [], ◌++◌, length};
 
 use std::marker::Model;
 
-/// Large enough that writes cost little beside the text, and small enough for the stack.
+/// Large enough that a write costs little next to its bytes, and small enough for the stack.
 pub(crate) const CAPACITY: usize = 4096;
 
 #[derive(Drop)]
@@ -32,7 +32,7 @@ impl HeldBytes {
         }
     }
 
-    /// How many more bytes can be held.
+    /// Returns the number of bytes that still fit.
     pub(crate) fn room(&self) -> usize
         ensures { result + length self.now ≡ CAPACITY }
     {

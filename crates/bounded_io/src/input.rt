@@ -1,4 +1,4 @@
-//! Reading an input whole, within a bound.
+//! Reading a complete input, within a bound.
 ghost use Rattle.std.specs.Prelude.{◌≡◌, IfOk, IfErr};
 ghost use Rattle.bounded_io.specs.Reading.{IsWholeInput, BreaksInput};
 
@@ -9,12 +9,12 @@ use std::alloc::Global;
 /// The longest input, in bytes.
 pub const MAX_INPUT: usize = 16_777_216;
 
-/// How much a single read asks for.
+/// The number of bytes that a single read requests.
 const CHUNK: usize = 8_192;
 
-/// Reads to the end of the reader. It never asks the reader for more than one byte past the bound, and takes no memory
-/// for that byte. A fault `File` comes only where a read failed. An interrupted read is a failed one, and is not tried
-/// again. Whether the reader's reads may fail stays as it was.
+/// Reads to the end of the reader. It never requests more than one byte past the bound, and does not allocate for
+/// that byte. `File` is returned only if a read failed. An interrupted read counts as failed and is not retried.
+/// Whether the reader's reads can fail does not change.
 pub fn read_input<R: Input>(alloc: Global, reader: &mut R) -> Result<Vec<u8>, InputFault>
     ensures ok { IfOk result (λ input. IsWholeInput (R.remaining reader.old) (R.remaining reader.new) input.items) }
     ensures err { IfErr result (BreaksInput (R.is_reliable reader.old) (R.remaining reader.old) (R.remaining reader.new)) }

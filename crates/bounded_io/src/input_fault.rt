@@ -5,7 +5,7 @@ ghost use Rattle.bounded_io.specs.Faults.{number_of};
 use std::error::Error;
 use std::fmt;
 
-/// Why an input was not read whole. What was read of it is gone.
+/// Why an input was not read completely. The bytes read so far are lost.
 #[derive(Clone, Copy, Debug, PartialEq, Eq)]
 pub enum InputFault {
     /// A read failed, perhaps because a signal interrupted it.
@@ -16,7 +16,7 @@ pub enum InputFault {
 }
 
 impl InputFault {
-    /// The fault's number; want of memory has none.
+    /// Returns the error number. Running out of memory has none.
     pub fn number(&self) -> Option<u16>
         ensures { result ≡ number_of self.now }
     {

@@ -1,4 +1,4 @@
-//! Bounded reading of inputs, and writing of texts that says how much went out.
+//! Bounded reading of inputs, and writing that reports how many bytes were written.
 #![tactic(auto)]
 
 mod held_bytes;

@@ -1,16 +1,16 @@
-//! Readers, by whether their reads may fail.
+//! Readers, by whether their reads can fail.
 ghost use Rattle.std.specs.Prelude.{◌≡◌, ◌<◌, ◌≤◌, Bool, false, take, length, IfSome, IsNone};
 ghost use Rattle.std.specs.Io.KnownBytes.{Consumes, IsAtEnd, Keeps};
 
 use std::io;
 use std::io::Read;
 
-/// A reader of which a contract can say that its reads don't fail.
+/// A reader for which a contract can state that its reads do not fail.
 pub trait Input: Read {
     /// Whether no read fails.
     ghost is_reliable: { Self → Bool };
 
-    /// One read, and how many bytes it gave: none only at the end. Where there is no count it failed.
+    /// Reads once and returns the number of bytes read: 0 only at the end, `None` if the read failed.
     fn read_some(&mut self, room: &mut [u8]) -> Option<usize>
         requires { 0 < length room.old }
         ensures bound { IfSome result (λ n. n ≤ length room.old) }
@@ -21,7 +21,7 @@ pub trait Input: Read {
         ensures stays { is_reliable self.new ≡ is_reliable self.old };
 }
 
-/// A reader whose reads may fail at any time, as those of files and pipes do.
+/// A reader whose reads can fail at any time, as those of files and pipes do.
 #[derive(Drop)]
 pub struct Fallible<R>(pub R);
 

@@ -1,4 +1,4 @@
-//! A writer of texts that are made of many pieces.
+//! A writer of text that consists of many pieces.
 ghost use Rattle.std.specs.Prelude.{◌≡◌, ◌<◌, ◌≤◌, ◌+◌, [], IfSome, length, decimal};
 ghost use Rattle.bounded_io.specs.Writing.{Begins, Writes, Passes, HoldsNone, Finishes, fault_of};
 
@@ -8,18 +8,18 @@ use crate::write_fault::WriteFault;
 use itoa::Buffer;
 use std::io::Write;
 
-/// Writes a text piece by piece, and tells at the end how much of it went out. Pieces are held back, so that they go
-/// out in large writes; it takes no memory. After a fault it drops what comes, so no piece has to be looked after by
-/// itself. It can't be dropped, so that no fault gets lost: `finish` ends the text.
+/// Writes a text piece by piece, and reports at the end how much of it was written. Pieces are buffered for large
+/// writes, without allocating. After an error it discards further pieces, so the caller need not check each of them.
+/// It can't be dropped, so no error is lost: `finish` ends the text.
 pub struct TextWriter<'a, W> {
     out: &'a mut W,
-    /// How many bytes went out, or the fault that ended it.
+    /// The number of bytes written, or the error that ended the text.
     sent: Result<u64, WriteFault>,
     held: HeldBytes,
 }
 
 impl<'a, W: Write> TextWriter<'a, W> {
-    /// Begins a text.
+    /// Starts a text.
     pub fn new(out: &'a mut W) -> TextWriter<'a, W>
         ensures { Begins out.entry result }
     {
@@ -30,7 +30,7 @@ impl<'a, W: Write> TextWriter<'a, W> {
         }
     }
 
-    /// Goes on with these bytes.
+    /// Appends these bytes.
     #[tactic(auto, using(crate::proofs::WritingLemmas::writes_two))]
     pub fn write_bytes(&mut self, bytes: &[u8])
         ensures { Writes W.contents self.old self.new bytes.now }
@@ -43,21 +43,21 @@ impl<'a, W: Write> TextWriter<'a, W> {
         }
     }
 
-    /// Goes on with this text.
+    /// Appends this string.
     pub fn write_str(&mut self, text: &str)
         ensures { Writes W.contents self.old self.new text.now }
     {
         self.write_bytes(text.as_bytes());
     }
 
-    /// Goes on with the number in decimal, without leading zeros.
+    /// Appends the number in decimal, without leading zeros.
     pub fn write_number(&mut self, number: u64)
         ensures { Writes W.contents self.old self.new (decimal number) }
     {
         self.write_str(Buffer::new().format(number));
     }
 
-    /// Sends what is held, for a reader who waits for it.
+    /// Writes the buffered bytes, for a reader that waits for them.
     pub fn flush(&mut self)
         ensures writes { Writes W.contents self.old self.new [] }
         ensures holds { HoldsNone self.new }
@@ -66,14 +66,15 @@ impl<'a, W: Write> TextWriter<'a, W> {
         self.held.clear();
     }
 
-    /// The fault that ended the text, if one did: nothing goes out any more.
+    /// Returns the error that ended the text, if one did. After it, nothing more is written.
     pub fn fault(&self) -> Option<WriteFault>
         ensures { result ≡ fault_of self.now }
     {
         self.sent.err()
     }
 
-    /// Ends the text: it went out whole, or the fault says how much of it did. That is the fault that ended it before, where one did.
+    /// Ends the text. It was written completely, or the error reports how much of it was. An earlier error is
+    /// returned again.
     #[tactic(auto, using(crate::proofs::WritingLemmas::finished))]
     pub fn finish(self) -> Result<(), WriteFault>
         ensures finishes { Finishes W.contents self.entry (W.contents self.exit.0.now) result }
@@ -83,7 +84,7 @@ impl<'a, W: Write> TextWriter<'a, W> {
         resume(out, held.as_slice(), sent).and(Ok(()))
     }
 
-    /// Sends what is held where `len` more bytes would not fit beside it.
+    /// Writes the buffered bytes if `len` more bytes would not fit after them.
     #[tactic(auto, using(crate::proofs::WritingLemmas::writes_none))]
     fn make_room(&mut self, len: usize)
         ensures writes { Writes W.contents self.old self.new [] }
@@ -110,7 +111,7 @@ impl<'a, W: Write> TextWriter<'a, W> {
     }
 }
 
-/// Writes the bytes after those that went out, and nothing after a fault.
+/// Writes the bytes after those already written, and nothing after an error.
 fn resume<W: Write>(
     out: &mut W,
     bytes: &[u8],

@@ -1,4 +1,4 @@
-//! Writing bytes while counting how many went out.
+//! Writing bytes while counting how many were written.
 ghost use Rattle.std.specs.Prelude.{◌≡◌, ◌≤◌, length, take};
 ghost use Rattle.std.specs.Io.KnownBytes.{Appends};
 ghost use Rattle.bounded_io.specs.Sending.{SendsBytes};
@@ -6,8 +6,8 @@ ghost use Rattle.bounded_io.specs.Sending.{SendsBytes};
 use crate::write_fault::WriteFault;
 use std::io::Write;
 
-/// Writes all the bytes, and answers the count with them. A short write goes on with the rest; an error, also an
-/// interrupted one, and a write that takes nothing end it.
+/// Writes all the bytes, and returns the count increased by their number. After a short write, it continues with the
+/// rest. It ends at an error, even an interrupted write, and at a write that takes no bytes.
 #[tactic(auto, using(crate::proofs::SendingLemmas::more_sent))]
 pub(crate) fn write_bytes<W: Write>(
     out: &mut W,
@@ -30,7 +30,7 @@ pub(crate) fn write_bytes<W: Write>(
     Ok(end)
 }
 
-/// One write, and how many of the bytes it took: none where it failed.
+/// Writes once and returns the number of bytes taken: 0 if the write failed.
 fn write_some<W: Write>(out: &mut W, bytes: &[u8]) -> usize
     ensures bound { result ≤ length bytes.now }
     ensures sent { Appends (W.contents out.old) (W.contents out.new) (take result bytes.now) }

@@ -4,29 +4,29 @@ ghost use Rattle.std.specs.Prelude.{◌≡◌};
 use std::error::Error;
 use std::fmt;
 
-/// The writer refused a write or took nothing, or the text had 2^64 bytes and more. Exactly the first `written` bytes
-/// of the text went out. Nothing else makes one.
+/// The writer rejected a write or took no bytes, or the text had 2^64 bytes or more. Exactly the first `written`
+/// bytes of the text were written. No other cause exists.
 #[derive(Clone, Copy, Debug, PartialEq, Eq)]
 pub struct WriteFault {
     written: u64,
 }
 
 impl WriteFault {
-    /// The fault of a text that broke off behind so many bytes.
+    /// Returns the error of a text that ended after `written` bytes.
     pub(crate) fn behind(written: u64) -> WriteFault
         ensures { result.written ≡ written }
     {
         WriteFault { written }
     }
 
-    /// How many bytes went out.
+    /// Returns the number of bytes written.
     pub fn written(&self) -> u64
         ensures { result ≡ self.now.written }
     {
         self.written
     }
 
-    /// The fault's number.
+    /// Returns the error number.
     pub fn number(&self) -> u16
         ensures { result ≡ 904 }
     {

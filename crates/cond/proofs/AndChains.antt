@@ -1,4 +1,4 @@
--- A chain of parts that And joins, gathered from left to right.
+-- A chain of parts joined by And, collected from left to right.
 use Rattle.std.proofs.Common.{◌≡◌, ℕ, ◌≤◌, true, false, List, [], ◌∷◌, ◌++◌, append-nil, map, sym, refl, ap, ◌∙◌, arith, Some, Ok, Err}
 use Rattle.cond.specs.Tokens.{Token, Or, And, Closing}
 use Rattle.cond.specs.Grammar.{All, neg, and, Neg, all_then, neg_then, all_depth, neg_depth}
@@ -12,7 +12,7 @@ use Rattle.cond.proofs.Unambiguous.{neg_same, all_ends_neg, no_and}
 use Rattle.cond.proofs.Appended.{neg_appended}
 use Rattle.cond.proofs.Lifts.{Holds, lifted}
 
--- the parts, each with the And behind it, before the rest
+-- the parts, each followed by And, before the rest
 abbrev pub chain : List Neg → List Token → List Token
 chain [] rest = rest
 chain (a ∷ parts) rest = neg_then a (And ∷ chain parts rest)
@@ -105,14 +105,14 @@ module _ (text : List ℕ) (tokens rest : List Token) (room : ℕ) (trees new : 
     same = λ e. joined e ∙ ap all_of (same_pushed e) ∙ sym (linked_means e so_far.parts read.reading);
   }
 
--- a part that stands alone
+-- a single part
 pub only_read : (text : List ℕ) (tokens : List Token) (room : ℕ) (tree : Tree) (left : List Token)
     → Reads neg_then neg_depth ends_neg neg_meaning (tree_verdict text) room tokens tree left → (first left ≡ Some And → ⊥)
     → Reads all_then all_depth ends_all all_meaning (tree_verdict text) room tokens tree left
 only_read text tokens room tree left read last =
     all_read text tokens tokens room [] (tree ∷ []) tree left (nothing_yet text tokens room) read refl last tree (λ e. alone (tree_verdict text e tree))
 
--- behind the parts
+-- after the parts
 chain_front : (parts : List Neg) (m : List Token) → chain parts m ≡ chain parts [] ++ m
 chain_front [] m = refl
 chain_front (a ∷ parts) m =

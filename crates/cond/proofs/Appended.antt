@@ -1,4 +1,4 @@
--- The tokens of a part stand before those that follow it.
+-- The tokens of a part come before those that follow it.
 use Rattle.std.proofs.Common.{◌≡◌, true, false, Bool, List, [], ◌∷◌, ◌++◌, refl, ap, ◌∙◌}
 use Rattle.std.specs.Prelude.{codes}
 use Rattle.cond.specs.Tokens.{Token, Name, Not, And, Or, Is, Opening, Closing}
@@ -53,7 +53,7 @@ mutual
   primary_appended (brackets a) x m = ap (λ k. Opening ∷ k) (any_appended a (Closing ∷ x) m)
   primary_appended (test t) x m = test_appended t x m
 
--- of those that nothing followed
+-- likewise if nothing followed them
 pub test_front : (t : Test) (m : List Token) → test_then t m ≡ test_then t [] ++ m
 test_front t m = test_appended t [] m
 

@@ -1,4 +1,4 @@
--- Where the tokens of a text stop to be a condition's, the text breaks a rule.
+-- The text breaks a rule where its tokens stop being those of a condition.
 use Rattle.std.proofs.Common.{◌≡◌, ℕ, suc, ◌+◌, ◌-◌, ◌<◌, ◌≤◌, List, [], ◌∷◌, ◌++◌, append-nil, map, length, get_or, sym, refl, ap, ◌∙◌, arith, subst}
 use Rattle.std.proofs.Common.{Some, None, length-append}
 use Rattle.cond.specs.Seen.{kept, marks, place_in}
@@ -21,7 +21,7 @@ use Rattle.cond.proofs.Sources.{marks_length}
 use Rattle.cond.proofs.Shorter.{token_shorter, left_le}
 use Rattle.cond.proofs.Unambiguous.{any_same}
 
--- without their places
+-- without their offsets
 pub falls_into : (text : List ℕ) (size : ℕ) (bytes : List ℕ) (tokens : List placed.Token) (left : List ℕ) (end : ℕ) → FallsAt text size bytes tokens left end
     → FallsInto bytes (marks text tokens) left
 falls_into text size bytes [] left end falls = (falls.0, falls.1)
@@ -37,7 +37,7 @@ falls_le text size bytes [] left end falls = omega (arith, ap length falls.1, le
 falls_le text size bytes (t ∷ tokens) left end falls =
     omega (arith, falls_le text size falls.0 tokens left end falls.3, token_shorter (behind_run is_blank bytes) (kept text t.mark) falls.0 falls.1, left_le is_blank bytes)
 
--- the text is cut before some of its tokens
+-- the text is split before some of its tokens
 record Cut (text : List ℕ) (size : ℕ) (bytes : List ℕ) (tokens : List placed.Token) (left : List ℕ) (end : ℕ) (front rest : List Token) : Type 0 where
   behind : List ℕ
   split : StartsWith bytes front behind
@@ -176,7 +176,7 @@ module _ (text : List ℕ) (tokens : List placed.Token) (left : List ℕ) (end :
     begun : IsBegun most_depth (any_then read.reading [])
     begun = (read.reading, [], sym (append-nil (any_then read.reading [])), read.deep)
 
-    -- tokens are left behind what was read
+    -- tokens remain after what was read
     pub left_breaks : (at : ℕ) → at ≡ place_in tokens end rest → (first rest ≡ None → ⊥) → Breaks (fault.Unexpected at) text
     left_breaks at there some =
         unexpected_at at (any_then read.reading []) rest (read.whole ∙ any_front read.reading rest) there begun none good
@@ -190,7 +190,7 @@ module _ (text : List ℕ) (tokens : List placed.Token) (left : List ℕ) (end :
         good : 0 < length left → rest ≡ [] → ⊥
         good bad nothing = some (ap first nothing)
 
-    -- none are, but something else is
+    -- no tokens remain, but something else does
     pub read_bad : first rest ≡ None → 0 < length left → Breaks (fault.BadToken end) text
     read_bad e some =
         bad_at (any_then read.reading []) (read.whole ∙ ap (any_then read.reading) (ended rest e)) some begun

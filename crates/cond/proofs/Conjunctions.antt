@@ -1,4 +1,4 @@
--- One part more.
+-- One more part.
 use Rattle.std.proofs.Common.{◌≡◌, map, Vec, Global, true, false, Ok, Err, refl, length-append, ℕ, ◌==◌, ◌+◌, ◌≤◌, List, [], ◌∷◌, ◌++◌, length, take, drop}
 use Rattle.std.proofs.Common.{length-drop, sym, ap, ◌∙◌, arith}
 use Rattle.std.proofs.lemmas.Bool.Decides.{nat_tests}
@@ -20,7 +20,7 @@ pub all_trees_more : (parts : List Part) (last : Part) → all_trees (parts ++ l
 all_trees_more [] last = omega arith
 all_trees_more (part ∷ parts) last = omega (arith, all_trees_more parts last)
 
--- behind the texts and trees of the parts before stand those of the last
+-- the text and trees of the last part follow those of the earlier parts
 module _ (e : Environment) (more : List ℕ) (later : List Tree) (last : Part) (long : bytes_of last ≡ length more) (many : trees_of last ≡ length later) where
   abbrev More : List ℕ → List Tree → List Part → Type 0
   More text trees parts =
@@ -49,7 +49,7 @@ module _ (e : Environment) (more : List ℕ) (later : List Tree) (last : Part) (
       ap (λ (v : Verdict). v ∷ verdicts e (drop (bytes_of part) (text ++ more)) (drop (trees_of part) (trees ++ later)) (parts ++ last ∷ [])) here
       ∙ ap (λ (l : List Verdict). part_verdict e (take (bytes_of part) text) (take (trees_of part) trees) part ∷ l) behind
 
--- behind these texts, trees and parts stand those of one part more
+-- one more text, tree list and part follow these
 pub record IsJoined (text more : List ℕ) (trees later : List Tree) (parts : List Part) (last : Part) (new_text : List ℕ) (new_trees : List Tree) (new_parts : List Part) : Type 0 where
   pub text_more : new_text ≡ text ++ more
   pub trees_more : new_trees ≡ trees ++ later
@@ -57,7 +57,7 @@ pub record IsJoined (text more : List ℕ) (trees later : List Tree) (parts : Li
   pub long : bytes_of last ≡ length more
   pub many : trees_of last ≡ length later
 
--- the same, of what the calls say
+-- likewise in terms of the contracts of the calls
 pub joins : (trees later : List Tree) {text more : List ℕ} {parts : List Part} {last : Part} {new_text : List ℕ} {new_trees : List Tree} {new_parts : List Part}
     → new_text ≡ text ++ more → new_trees ≡ trees ++ later → new_parts ≡ parts ++ last ∷ [] → bytes_of last ≡ length more → trees_of last ≡ length later
     → IsJoined text more trees later parts last new_text new_trees new_parts

@@ -1,4 +1,4 @@
--- Whether a part may end before some tokens, the first of them tells.
+-- Whether a part can end before some tokens depends on the first of them.
 use Rattle.std.proofs.Common.{◌≡◌, Bool, true, false, List, [], ◌∷◌, sym, refl, ap, ◌∙◌, Option, Some, None}
 use Rattle.cond.specs.Tokens.{Token, Or, And, Closing}
 use Rattle.cond.specs.Heads.{first}

@@ -1,4 +1,4 @@
--- Which token stands first, from the tests of it.
+-- Which token is first, by the tests of it.
 use Rattle.std.proofs.Common.{◌≡◌, ◌≤◌, true, false, List, [], ◌∷◌, length, refl, ap, arith, Some}
 use Rattle.cond.specs.Tokens.{Token, Or, And, Not, Opening, Closing}
 use Rattle.cond.specs.Heads.{first, behind, is_or, is_and, is_not, is_opening, is_closing}

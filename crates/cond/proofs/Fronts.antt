@@ -1,4 +1,4 @@
--- Which form of token the first byte tells.
+-- The form of token that the first byte determines.
 use Rattle.std.proofs.Common.{◌≡◌, ℕ, ◌≤◌, Bool, true, false, cond, List, [], ◌∷◌, drop, sym, refl, ap, ◌∙◌, arith, Some, None, slice_get, eqb, ◌≢◌, eq-eqb}
 use Rattle.std.proofs.lemmas.Bool.Decides.{nat_tests}
 use Rattle.std.proofs.lemmas.Bool.{ne_eqb}

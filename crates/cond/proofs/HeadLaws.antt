@@ -1,4 +1,4 @@
--- The tokens of a test tell it again, whatever stands behind it.
+-- The tokens of a test determine it, whatever follows.
 use Rattle.std.proofs.Common.{◌≡◌, ℕ, true, false, List, [], ◌∷◌, refl, ap, ◌∙◌, Ok}
 use Rattle.cond.specs.Tokens.{Token, Name, Or, And, Dot, Closing}
 use Rattle.cond.specs.Grammar.{whole, part, hostname, Operand, text, number, truth, ref, Test, stands, defined, equals, within, alone, field_word, field_named, operand_then, test_then}
@@ -62,7 +62,7 @@ tail_again (alone o) (Or ∷ rest) h = refl
 tail_again (alone o) (And ∷ rest) h = refl
 tail_again (alone o) (token ∷ rest) h = absurd (cc)
 
--- a test is read again, whatever stands behind it
+-- a test is read back, whatever follows
 pub test_again : (t : Test) (m : List Token) → ends_neg m ≡ true → test_head (test_then t m) ≡ Ok (t, m)
 unfolding test_head
 test_again t m h =

@@ -1,4 +1,4 @@
--- What is read, and refused, of a test that stands alone.
+-- What is read, or rejected, of a single test.
 use Rattle.std.proofs.Common.{◌≡◌, ℕ, true, false, List, [], ◌∷◌, ◌++◌, append-nil, sym, ap, ◌∙◌, arith, subst, Some, Result, Ok, Err}
 use Rattle.cond.specs.Tokens.{Token, Opening, Closing}
 use Rattle.cond.specs.Grammar.{Any, Primary, brackets, test, Test, test_then, any_then, primary_then}
@@ -31,7 +31,7 @@ error_in (Ok found) = 0
 error_in (Err at) = at
 
 module _ (place : List Token → ℕ) (room : ℕ) (tokens : List Token) (other : first tokens ≡ Some Opening → ⊥) where
-  -- brackets don't begin so
+  -- brackets don't start so
   no_bracket : (front rest more : List Token) (a : Any) (m : List Token) → tokens ≡ front ++ rest → Opening ∷ any_then a (Closing ∷ m) ≡ front ++ more → first more ≡ first rest → ⊥
   no_bracket front rest more a m whole e next =
       other (ap first whole ∙ sym (same_first front more rest next) ∙ sym (ap first e))

@@ -1,4 +1,4 @@
--- What stops a part stops what it stands in.
+-- What stops a part stops the part around it.
 use Rattle.std.proofs.Common.{◌≡◌, ℕ, ◌<◌, ◌≤◌, Bool, List, [], ◌∷◌, ◌++◌, append_assoc, sym, ap, ◌∙◌, IsTrue}
 use Rattle.cond.specs.Tokens.{Token}
 use Rattle.cond.specs.Heads.{first}
@@ -9,7 +9,7 @@ use Rattle.cond.proofs.Reached.{same_first}
 
 module _ {N M : Type 0} (then : N → List Token → List Token) (depth : N → ℕ) (ends : List Token → Bool) (room : ℕ) (outer_then : M → List Token → List Token)
     (outer_depth : M → ℕ) (outer_ends : List Token → Bool) (outer_room : ℕ) where
-  -- a part with these tokens, which has no room if what it stands in has none
+  -- a part with these tokens, which has no room if the outer part has none
   pub record Holds (outer : M) (tokens : List Token) : Type 0 where
     pub part : N
     pub behind : List Token
@@ -17,7 +17,7 @@ module _ {N M : Type 0} (then : N → List Token → List Token) (depth : N → 
     pub whole : then part behind ≡ tokens
     pub deep : room < depth part → outer_room < outer_depth outer
 
-  -- behind these tokens stands such a part, whatever reads them
+  -- such a part follows these tokens, whatever reads them
   pub record Stands (before inner : List Token) : Type 0 where
     pub around : N → M
     pub after : List Token

@@ -1,4 +1,4 @@
--- The first of some names, which stand in lists.
+-- The first of some names, given as lists.
 use Rattle.std.proofs.Common.{◌≡◌, Bool, true, false, cond, ◌||◌, is_some, option_map, Bor, Option, Some, None, List, [], ◌∷◌, refl, sym, ap, ◌∙◌}
 use Rattle.std.specs.List.{find}
 use Rattle.std.specs.Option.{option_or}
@@ -6,7 +6,7 @@ use Rattle.std.proofs.lemmas.List.Folds.{find-append}
 use Rattle.group_tree.specs.Names.{Name, same_name, is_among}
 use Rattle.cond.specs.Mentions.{joined}
 
--- the first one in the first list that has one
+-- the first name in the first list that has one
 abbrev pub first_in : (Name → Bool) → List (List Name) → Option Name
 first_in wanted [] = None
 first_in wanted (names ∷ lists) = option_or (find wanted names) (first_in wanted lists)
@@ -25,7 +25,7 @@ some_is_among name [] = refl
 some_is_among name (first ∷ names) =
     is_some_first (same_name name first) first (find (same_name name) names) (is_among name names) (some_is_among name names)
 
--- the name that was found is among them where there is one
+-- the name that was found is among them, if there is one
 pub is_mentioned : (found : Option (Bor Name)) (name : Name) (names : List Name) → option_map (λ (of : Bor Name). of.now) found ≡ find (same_name name) names
     → is_some found ≡ is_among name names
 is_mentioned None name names same = ap is_some same ∙ some_is_among name names

@@ -1,4 +1,4 @@
--- The words of fields and states are those that name them.
+-- The words of fields and states are the names of the fields and states.
 use Rattle.std.proofs.Common.{◌≡◌, ℕ, Bool, true, false, cond, bytes_eq, List, [], ◌∷◌, sym, refl, ap, ◌∙◌, Option, Some, None}
 use Rattle.std.specs.Prelude.{codes}
 use Rattle.std.specs.List.{find}

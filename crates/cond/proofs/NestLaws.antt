@@ -1,4 +1,4 @@
--- What is read, and refused, of `not` and of brackets.
+-- What is read, or rejected, of `not` and of brackets.
 use Rattle.std.proofs.Common.{◌≡◌, ℕ, ◌-◌, ◌<◌, true, false, List, [], ◌∷◌, ◌++◌, append-nil, sym, refl, ap, ◌∙◌, arith, Some, Result, Ok, Err}
 use Rattle.std.specs.Prelude.{IfOk, IfErr}
 use Rattle.cond.specs.Seen.{ahead, text_of}
@@ -112,7 +112,7 @@ plain_refused place room tokens fault other inner =
     held (not n) m x h e f = absurd (other (sym f ∙ sym (ap first e)))
     held (primary p) m x h e f = record { part = p; behind = m; ended = h; whole = e; deep = λ l. l }
 
--- the same of what the reader of a primary answers
+-- likewise for the result of reading a primary
 pub plain_read_if : (source : Source) (room : ℕ) (tokens : List Token) (answer : Result (Tree × ℕ) Stop)
     → IfOk answer (λ read. ReadsPrimary (text_of source) room tokens read.0 (ahead source read.1))
     → IfOk answer (λ read. ReadsNeg (text_of source) room tokens read.0 (ahead source read.1))
@@ -166,7 +166,7 @@ module _ (text : List ℕ) (place : List Token → ℕ) (room : ℕ) (tokens : L
       same = inner.same;
     }
 
-    -- the inner part of whatever reads these tokens is the one that was read
+    -- in any part that reads these tokens, the inner part is the one that was read
     only : (a : Any) (m x : List Token) → Opening ∷ any_then a (Closing ∷ m) ≡ Opening ∷ any_then inner.reading x → ends_any x ≡ true → x ≡ Closing ∷ m
     only a m x e h =
         let same : any_then inner.reading x ≡ any_then a (Closing ∷ m) = cc in

@@ -1,4 +1,4 @@
--- What `parse` gives at the longest run of digits.
+-- The result of `parse` on the longest run of digits.
 use Rattle.std.proofs.Common.{◌≡◌, ℕ, suc, ◌+◌, ◌^◌, ◌<◌, ◌≤◌, Bool, true, false, ◌&&◌, cond, List, ◌∷◌, length, get_or, take, drop, sym, refl, ap, ◌∙◌}
 use Rattle.std.proofs.Common.{arith, subst, nat_lt, nat_le, Some, None, Ok, Err, Result, ℤ, pos, neg_ℤ}
 use Rattle.std.specs.Int.{IsInRange, w64}

@@ -1,4 +1,4 @@
--- A text that writes a condition within the bounds breaks no rule.
+-- A text that contains a condition within the limits breaks no rule.
 use Rattle.std.proofs.Common.{◌≡◌, ℕ, ◌≤◌, List, [], ◌∷◌, ◌++◌, length, sym, refl, ap, ◌∙◌, arith, subst, Some, None, Result, Ok, Err, IfErr}
 use Rattle.cond.specs.Tokens.{Token, Not, Front, FallsInto, next_token, token_at}
 use Rattle.cond.specs.Fronts.{StartsWith, token_of}
@@ -17,7 +17,7 @@ behind_in : Front → List ℕ
 behind_in None = []
 behind_in (Some front) = front.1
 
--- the tokens of a whole text begin with those that it starts with, and go on as it does
+-- the tokens of a complete text start with those that it starts with, and continue as it does
 record Through (front all : List Token) (left : List ℕ) : Type 0 where
   more : List Token
   whole : all ≡ front ++ more
@@ -70,7 +70,7 @@ only_memory (fault.TooDeep at) text breaks condition written short deep =
 only_memory (fault.TooLong at) text breaks condition written short deep = absurd (omega (arith, breaks.1, short))
 only_memory fault.Memory text breaks condition written short deep = refl
 
--- the same of what the reader of a text answers
+-- likewise for the result of reading a text
 pub only_refused : (result : Result Tree CondFault) (text : List ℕ) → IfErr result (λ f. Breaks f text) → (condition : Any) → Writes text condition → length text ≤ most_bytes
     → any_depth condition ≤ most_depth
     → IfErr result (λ f. f ≡ fault.Memory)

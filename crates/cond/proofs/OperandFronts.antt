@@ -1,4 +1,4 @@
--- Where the tokens stop to be an operand, and that those before begin one.
+-- Where the tokens stop being an operand, the earlier ones start one.
 use Rattle.std.proofs.Common.{◌≡◌, ℕ, true, List, [], ◌∷◌, append-nil, sym, refl, ap, ◌∙◌, Option, Some, None}
 use Rattle.cond.specs.Tokens.{Token, Name, Number, Text, Truth, Host, Dot}
 use Rattle.cond.specs.Grammar.{whole, part, hostname, Operand, text, number, truth, ref, field_word, field_named, operand_then}

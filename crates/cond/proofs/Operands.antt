@@ -1,11 +1,11 @@
--- Two operands that stand at the start of one list of tokens are one.
+-- Two operands at the start of one list of tokens are equal.
 use Rattle.std.proofs.Common.{◌≡◌, Bool, true, false, List, [], ◌∷◌, sym, refl, ap, ◌∙◌}
 use Rattle.cond.specs.Tokens.{Token, Name, Number, Text, Truth, Dot, Host}
 use Rattle.cond.specs.Grammar.{field_word, Ref, whole, part, hostname, Operand, text, number, truth, ref, ref_then, operand_then}
 use Rattle.cond.specs.Readings.{ends_neg}
 use Rattle.cond.proofs.Words.{field_same}
 
--- nothing that lengthens a name to a field of it
+-- nothing that extends a name to a field of it
 abbrev pub is_apart : List Token → Bool
 is_apart [] = true
 is_apart (Dot ∷ rest) = false
@@ -48,7 +48,7 @@ operand_same (ref hostname) b m k h g e = absurd (cc)
 operand_same (ref (whole x)) b m k h g e = absurd (cc)
 operand_same (ref (part x f)) b m k h g e = absurd (cc)
 
--- tokens that begin no operand
+-- tokens that start no operand
 abbrev pub begins_none : List Token → Bool
 begins_none [] = true
 begins_none (Name x ∷ rest) = false

@@ -1,4 +1,4 @@
--- A chain of parts that Or joins, gathered from left to right.
+-- A chain of parts joined by Or, collected from left to right.
 use Rattle.std.proofs.Common.{◌≡◌, ℕ, ◌≤◌, true, false, List, [], ◌∷◌, ◌++◌, append-nil, map, sym, refl, ap, ◌∙◌, arith, Some, Ok, Err}
 use Rattle.cond.specs.Tokens.{Token, Or, Closing}
 use Rattle.cond.specs.Grammar.{Any, all, or, All, any_then, all_then, any_depth, all_depth}
@@ -12,7 +12,7 @@ use Rattle.cond.proofs.Unambiguous.{all_same, any_ends_all, no_or}
 use Rattle.cond.proofs.Appended.{all_appended}
 use Rattle.cond.proofs.Lifts.{Holds, lifted}
 
--- the parts, each with the Or behind it, before the rest
+-- the parts, each followed by Or, before the rest
 abbrev pub chain : List All → List Token → List Token
 chain [] rest = rest
 chain (a ∷ parts) rest = all_then a (Or ∷ chain parts rest)
@@ -104,14 +104,14 @@ module _ (text : List ℕ) (tokens rest : List Token) (room : ℕ) (trees new : 
     same = λ e. joined e ∙ ap any_of (same_pushed e) ∙ sym (linked_means e so_far.parts read.reading);
   }
 
--- a part that stands alone
+-- a single part
 pub only_read : (text : List ℕ) (tokens : List Token) (room : ℕ) (tree : Tree) (left : List Token)
     → Reads all_then all_depth ends_all all_meaning (tree_verdict text) room tokens tree left → (first left ≡ Some Or → ⊥)
     → Reads any_then any_depth ends_any any_meaning (tree_verdict text) room tokens tree left
 only_read text tokens room tree left read last =
     all_read text tokens tokens room [] (tree ∷ []) tree left (nothing_yet text tokens room) read refl last tree (λ e. alone (tree_verdict text e tree))
 
--- behind the parts
+-- after the parts
 chain_front : (parts : List All) (m : List Token) → chain parts m ≡ chain parts [] ++ m
 chain_front [] m = refl
 chain_front (a ∷ parts) m =

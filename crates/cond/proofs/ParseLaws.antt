@@ -1,4 +1,4 @@
--- What was read of the tokens, as a text's.
+-- What was read of the tokens, as that of a text.
 use Rattle.std.proofs.Common.{◌≡◌, ℕ, ◌≤◌, true, false, List, [], ◌∷◌, length, refl, ap, ◌∙◌, sym, arith, subst, Option, Some, None, Result, Ok, Err, IfOk}
 use Rattle.std.specs.Prelude.{option_map, is_some}
 use Rattle.cond.specs.Seen.{kept}
@@ -36,7 +36,7 @@ parsed text tokens left means falls nothing short read = record {
   same = read.same;
 }
 
--- the same of what the reader of a text's tokens answers
+-- likewise for the result of reading a text's tokens
 pub parsed_if : (result : Result Tree CondFault) (text : List ℕ) (tokens : List Token) (left : List ℕ) → FallsInto text tokens left → length text ≤ most_bytes
     → IfOk result (λ tree. IsRead tokens (λ e. tree_verdict text e tree)) → IfOk result (λ _. left ≡ []) → IfOk result (λ tree. IsMeant text (λ e. tree_verdict text e tree))
 parsed_if (Ok tree) text tokens left falls short read whole =
@@ -51,7 +51,7 @@ pub kept_none : (text : List ℕ) (o : Option Mark) (tokens : List Token) → op
 kept_none text None tokens e none = ended tokens (sym e)
 kept_none text (Some mark) tokens e none = absurd (cc)
 
--- tokens that are those of one test
+-- the tokens of a single test
 pub test_alone : (text : List ℕ) (tokens : List Token) (t : Test) (tree : Tree) → tokens ≡ test_then t [] → ((e : Environment) → tree_verdict text e tree ≡ test_meaning e t)
     → IsRead tokens (λ e. tree_verdict text e tree)
 test_alone text tokens t tree whole same = record {

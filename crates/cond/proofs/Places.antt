@@ -1,4 +1,4 @@
--- Where the word of a token stands in a text.
+-- The offset of a token's word in a text.
 use Rattle.std.proofs.Common.{◌≡◌, ℕ, suc, ◌+◌, ◌^◌, ◌≤◌, Bool, true, false, ◌&&◌, ◌||◌, cond, nat_lt, nat_le, bytes_eq, eqb, List, [], ◌∷◌, ◌++◌, length}
 use Rattle.std.proofs.Common.{take, drop, append_assoc, length-append, sym, refl, ap, ◌∙◌, arith, subst, Some, None, pos, neg_ℤ}
 use Rattle.std.specs.Prelude.{⊤, codes}
@@ -12,11 +12,11 @@ use Rattle.cond.specs.Tokens.{Token, Front, Name, Number, Text, Truth, Not, And,
 use Rattle.cond.specs.Tokens.{is_inside, run, behind_run, token_of_word, word_at, number_at, negative_at, ended_by, text_at, sign_at, token_at}
 use Rattle.cond.specs.Seen.{StandsAt, word_length, bytes_at, piece}
 
--- what is left of a text stands at its end
+-- the rest of a text is at its end
 abbrev pub Ends : List ℕ → List ℕ → Type 0
 Ends text left = (before : List ℕ) × (text ≡ before ++ left)
 
--- the word stands where the text begins
+-- the word is at the start of the text
 abbrev pub Begins : List ℕ → Token → Type 0
 Begins text token = StandsAt text 0 token × (word_length token ≤ length text)
 
@@ -31,7 +31,7 @@ pub ends_later : (text left rest : List ℕ) → Ends text left → Ends left re
 ends_later text left rest first later =
     (first.0 ++ later.0, first.1 ∙ ap (λ l. first.0 ++ l) later.1 ∙ sym (append_assoc first.0 later.0 rest))
 
--- a run is as long as it is
+-- a run is not longer than the text
 run_length : (p : ℕ → Bool) (bs : List ℕ) → length (run p bs) ≤ length bs
 run_length p bs =
     omega (arith, ap length (sym (take-append-drop (prefix_len p bs) bs)), length-append (run p bs) (behind_run p bs))
@@ -44,7 +44,7 @@ run_begins : (p : ℕ → Bool) (bs : List ℕ) → take (length (run p bs)) bs 
 run_begins p bs =
     ap (take (length (run p bs))) (sym (take-append-drop (prefix_len p bs) bs)) ∙ took (run p bs) (behind_run p bs)
 
--- a token without a word has no place
+-- a token without a word has no offset
 step : (bs : List ℕ) (b : Bool) (t other : Token) → StandsAt bs 0 t → word_length t ≡ 0 → Begins bs other → Begins bs (cond b t other)
 step bs true t other stands none later = (stands, omega (arith, none))
 step bs false t other stands none later = later
@@ -74,7 +74,7 @@ number bs =
     by_test bs (nat_lt 0 (prefix_len is_digit bs) && nat_lt (digits_value 10 (run is_digit bs)) (2 ^ 63))
     (Some (Number (pos (digits_value 10 (run is_digit bs))), behind_run is_digit bs)) None (run_ends is_digit bs, (tt, omega arith)) tt
 
--- behind a first byte
+-- after a first byte
 more : (b : ℕ) (bs left : List ℕ) → Ends bs left → Ends (b ∷ bs) left
 more b bs left ends = (b ∷ ends.0, ap (λ l. b ∷ l) ends.1)
 
@@ -120,7 +120,7 @@ token_fronts (b ∷ bs) =
     (by_test all (is_digit b) (number_at all) minus (number all)
     (by_test all (eqb b 45) (negative_at bs) quoted (negative b bs) (by_test all (is_quote b) (text_at b bs) (sign_at b bs) (text b bs) (sign b bs))))
 
--- what a token that was cut off has to do with the bytes
+-- how a token that was read relates to the bytes
 pub token_begins : (bs : List ℕ) (t : Token) (rest : List ℕ) → token_at bs ≡ Some (t, rest) → Ends bs rest × Begins bs t
 token_begins bs t rest e = subst (Fronts bs) e (token_fronts bs)
 
@@ -130,7 +130,7 @@ dropped (b ∷ before) bs n =
     let e : length (b ∷ before) + n ≡ suc (length before + n) = omega arith in
     ap (λ k. drop k (b ∷ (before ++ bs))) e ∙ dropped before bs n
 
--- a word that stands where the rest of a text begins, in the whole text
+-- a word at the start of the rest of a text, in the complete text
 pub stands_later : (text bs : List ℕ) (at : ℕ) (t : Token) (ends : Ends text bs) → at ≡ length ends.0 → StandsAt bs 0 t → StandsAt text at t
 stands_later text bs at (Name name) ends here stands =
     ap (λ n. take (length name) (drop n text)) here ∙ ap (λ l. take (length name) (drop (length ends.0) l)) ends.1 ∙ ap (take (length name)) (behind ends.0 bs) ∙ stands
@@ -155,7 +155,7 @@ stands_later text bs at Dot ends here stands = tt
 stands_later text bs at Opening ends here stands = tt
 stands_later text bs at Closing ends here stands = tt
 
--- the word at a place
+-- the word at an offset
 pub piece_is : (text word : List ℕ) (span : Span) → bytes_at text span ≡ word → IsUtf8 word → word ≡ piece text span
 unfolding piece
 piece_is text word span e u =

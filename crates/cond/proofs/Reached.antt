@@ -1,9 +1,9 @@
--- How far a test is read: what is answered depends on the tokens before the place where reading ends, and on the one there.
+-- How far a test is read: the result depends on the tokens before the place where reading ends, and on the one there.
 use Rattle.std.proofs.Common.{◌≡◌, List, [], ◌∷◌, ◌++◌, append-nil, append_assoc, sym, refl, ap, ◌∙◌, subst, Ok, Err}
 use Rattle.cond.specs.Tokens.{Token}
 use Rattle.cond.specs.Heads.{Head, first}
 
--- the tokens from where reading ends, and others in their place
+-- the tokens from where reading ends, and others instead of them
 abbrev pub left : {A : Type 0} → Head A → List Token
 left (Ok read) = read.1
 left (Err stop) = stop
@@ -12,7 +12,7 @@ abbrev pub with_left : {A : Type 0} → List Token → Head A → Head A
 with_left m (Ok read) = Ok (read.0, m)
 with_left m (Err stop) = Err m
 
--- What was read stands for these tokens; where nothing was, something begins with them.
+-- the tokens are those of what was read, or, if nothing was, the start of something
 abbrev pub Told : {A : Type 0} → (A → List Token → List Token) → List Token → Head A → Type 0
 Told {A} then front (Ok read) = then read.0 [] ≡ front
 Told {A} then front (Err stop) = (a : A) × (more : List Token) × (then a [] ≡ front ++ more)
@@ -27,7 +27,7 @@ pub record Reached {A : Type 0} (then : A → List Token → List Token) (before
 abbrev pub Reaches : {A : Type 0} → (A → List Token → List Token) → List Token → (List Token → Head A) → List Token → Type 0
 Reaches {A} then before head tokens = (answer : Head A) × Reached then before head tokens answer
 
--- the first of some tokens is one of the front, or the one behind it
+-- the first of some tokens is in the prefix, or follows it
 pub same_first : (front m k : List Token) → first m ≡ first k → first (front ++ m) ≡ first (front ++ k)
 same_first [] m k e = e
 same_first (t ∷ front) m k e = refl
@@ -58,7 +58,7 @@ module _ {A : Type 0} (then : A → List Token → List Token) (before : List To
     },
   )
 
-  -- behind one token more
+  -- after one more token
   pub grows : (t : Token) (inner : List Token → Head A) (rest : List Token) → ((m : List Token) → head (t ∷ m) ≡ inner m) → Reaches then (before ++ t ∷ []) inner rest
       → Reaches then before head (t ∷ rest)
   grows t inner rest step read = (
@@ -72,7 +72,7 @@ module _ {A : Type 0} (then : A → List Token → List Token) (before : List To
     },
   )
 
-  -- of a reader that answers the same where the same token stands first
+  -- for a reader that gives the same result if the first token is the same
   pub same_as : (inner : List Token → Head A) (tokens : List Token) → ((m : List Token) → first m ≡ first tokens → head m ≡ inner m) → Reaches then before inner tokens
       → Reaches then before head tokens
   same_as inner tokens same read = (

@@ -1,4 +1,4 @@
--- The reserved words of words are the words that are tokens of their own.
+-- The reserved words of arguments are the words that are tokens of their own.
 use Rattle.std.proofs.Common.{◌≡◌, Bool, true, false, ◌||◌, cond, bytes_eq, ℕ, List, refl, sym, subst}
 use Rattle.std.specs.Prelude.{codes}
 use Rattle.text_syntax.specs.Words.{is_reserved}
@@ -8,7 +8,7 @@ abbrev IsNoName : Token → Type 0
 IsNoName token = (name : List ℕ) → token ≡ Name name → ⊥
 
 module _ (word : List ℕ) where
-  -- the token of a word that is reserved, or of one that isn't
+  -- the token of a word that is reserved, or not
   abbrev IsTokenOf : Bool → Token → Type 0
   IsTokenOf true token = IsNoName token
   IsTokenOf false token = token ≡ Name word

@@ -1,4 +1,4 @@
--- A text may be cut where a run of bytes of ASCII ends.
+-- A text can be split where a run of ASCII bytes ends.
 use Rattle.std.proofs.Common.{◌≡◌, ℕ, ◌+◌, ◌<◌, ◌≤◌, Bool, true, false, List, [], ◌∷◌, length, get_or, sym, refl, ap, arith, subst, nat_eq, cond, Some, None, slice_get, ⊎_elim}
 use Rattle.std.specs.List.{prefix_len}
 use Rattle.std.specs.Str.{IsUtf8, IsCharBoundary}
@@ -18,7 +18,7 @@ name_ends = run_ends is_name_byte name_ascii
 inside_plain : (quote b : ℕ) → quote < 128 → is_inside quote b ≡ false → b < 128
 inside_plain quote b small e = grind (arith, nat_tests)
 
--- what is left where a quote is sought begins with that quote, with a backslash or not at all
+-- the rest after a search for a quote starts with that quote or with a backslash, or is empty
 pub inside_ends : (quote : ℕ) (bs : List ℕ) → quote < 128 → IsUtf8 bs → IsCharBoundary bs (prefix_len (is_inside quote) bs)
 inside_ends quote bs small u =
     ⊎_elim before whole (cases_lt (prefix_len (is_inside quote) bs) (length bs))
@@ -40,14 +40,14 @@ not_ended wanted token (b ∷ rest) other = by_test (nat_eq b wanted) refl
     by_test true e = absurd (other rest (ap (λ x. x ∷ rest) (eqb-true b wanted e)))
     by_test false e = ap (λ t. cond t (Some (token, rest)) None) e
 
--- where an ASCII byte stands first, the text may be cut behind it
+-- after a first byte in ASCII, the text can be split
 pub behind_first : (bs : List ℕ) (b : ℕ) → IsUtf8 bs → slice_get bs 0 ≡ Some b → b < 128 → IsCharBoundary bs 1
 behind_first [] b u e small = absurd (cc)
 behind_first (x ∷ xs) b u e small =
     let same : x ≡ b = cc in
     IsCharBoundary-after_ascii (x ∷ xs) 0 u (omega arith) (omega (arith, same, small))
 
--- where a minus stands first, it may be cut behind the digits
+-- after a first minus, it can be split after the digits
 pub negative_ends : (bs text : List ℕ) (n : ℕ) → IsUtf8 bs → text ≡ 45 ∷ bs → n ≡ prefix_len is_digit bs → IsCharBoundary text (1 + n)
 negative_ends bs text n u minus counted =
     let here : IsCharBoundary bs n = subst (λ (k : ℕ). IsCharBoundary bs k) (sym counted) (digits_end bs u) in

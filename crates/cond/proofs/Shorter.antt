@@ -6,7 +6,7 @@ use Rattle.std.specs.Str.Parse.{digits_value}
 use Rattle.cond.specs.Tokens.{Token, Front, Number, Text, Equal, Unequal, Dot, Opening, Closing, is_letter, is_digit, is_name_byte, is_quote, is_inside, run, behind_run, word_at, number_at}
 use Rattle.cond.specs.Tokens.{negative_at, ended_by, text_at, sign_at, token_at}
 
--- how much is left behind the token; nothing where there is none
+-- how many bytes are left after the token; 0 if there is none
 abbrev left_of : Front → ℕ
 left_of None = 0
 left_of (Some front) = length front.1

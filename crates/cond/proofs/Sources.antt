@@ -1,4 +1,4 @@
--- The tokens that are left of a text.
+-- The remaining tokens of a text.
 use Rattle.std.proofs.Common.{◌≡◌, ℕ, zero, suc, ◌+◌, ◌-◌, List, [], ◌∷◌, drop, map, get_or, length, length-drop, slice_get, sym, refl, ap, ◌∙◌, arith, Some, None}
 use Rattle.cond.specs.Tokens.{Token}
 use Rattle.cond.specs.Heads.{first, behind}
@@ -27,7 +27,7 @@ behind_at text tokens n =
     let e : n + 1 ≡ suc n = omega arith in
     ap (λ k. drop k (marks text tokens)) e ∙ next (marks text tokens) n
 
--- the place of the first token that is left, or of the end
+-- the offset of the first remaining token, or of the end
 pub marks_length : (text : List ℕ) (tokens : List placed.Token) → length (marks text tokens) ≡ length tokens
 marks_length text [] = refl
 marks_length text (t ∷ tokens) = omega (arith, marks_length text tokens)

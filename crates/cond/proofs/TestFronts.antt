@@ -1,4 +1,4 @@
--- Where the tokens stop to be a test, and that those before begin one.
+-- Where the tokens stop being a test, the earlier ones start one.
 use Rattle.std.proofs.Common.{◌≡◌, ℕ, Bool, true, false, cond, bytes_eq, List, [], ◌∷◌, ◌++◌, append-nil, append_assoc, sym, refl, ap, ◌∙◌, subst, Option, Some, None, Ok, Err}
 use Rattle.std.specs.Prelude.{codes}
 use Rattle.std.proofs.lemmas.Slice.Eq.{bytes_eq-Decides}
@@ -19,12 +19,12 @@ asked r c = ref_then r (Is ∷ not_then c [])
 abbrev ReachesAsked : Ref → Bool → List Token → Type 0
 ReachesAsked r c = Reaches test_then (asked r c) (asked_head r c)
 
--- no word stands there that is asked for
+-- no word that can be tested is there
 asked_stops : (r : Ref) (c : Bool) (tokens : List Token) → ((m : List Token) → first m ≡ first tokens → asked_head r c m ≡ Err m) → ReachesAsked r c tokens
 asked_stops r c tokens same =
     stops test_then (asked r c) (asked_head r c) tokens same (defined r c) (Name (codes "defined") ∷ []) (asked_appended r c [] (Name (codes "defined") ∷ []))
 
--- a word does
+-- such a word is there
 asked_reads : (r : Ref) (c : Bool) (w : List ℕ) (rest : List Token) (t : Test) → ((m : List Token) → asked_head r c (Name w ∷ m) ≡ Ok (t, m))
     → test_then t [] ≡ ref_then r (Is ∷ not_then c (Name w ∷ [])) → ReachesAsked r c (Name w ∷ rest)
 asked_reads r c w rest t same e =
@@ -92,7 +92,7 @@ in_reached g c (In ∷ rest) =
     grows test_then (grouped g c) (in_head g c) In (groups_head g c) rest (λ m. refl) (groups_reached g c rest)
 in_reached g c (token ∷ rest) = in_stops g c (token ∷ rest) (λ m f. ap (λ n. in_by n g c m) f)
 
--- behind a sign the second operand is read
+-- after a sign, the second operand is read
 equals_reached : (l : Operand) (c : Bool) (tokens : List Token) → Reaches test_then (operand_then l [] ++ sign_of c ∷ []) (equals_head l c) tokens
 unfolding equals_head
 equals_reached l c tokens = by_answer (operand_reached tokens).0 (operand_reached tokens).1
@@ -127,7 +127,7 @@ equals_reached l c tokens = by_answer (operand_reached tokens).0 (operand_reache
       },
     )
 
--- behind the operand that a test begins with
+-- after the operand that a test starts with
 abbrev ReachesTail : Operand → List Token → Type 0
 ReachesTail o = Reaches test_then (operand_then o []) (tail_head o)
 
@@ -213,7 +213,7 @@ test_reached tokens = by_answer (operand_reached tokens).0 (operand_reached toke
           },
         )
 
--- what was read stands for the tokens
+-- the tokens are those of what was read
 pub test_read_whole : (tokens : List Token) (t : Test) (rest : List Token) → test_head tokens ≡ Ok (t, rest) → tokens ≡ test_then t rest
 test_read_whole tokens t rest found =
     let read = subst (λ (h : Head Test). Reached test_then [] test_head tokens h) (sym (test_reached tokens).1.is ∙ found) (test_reached tokens).1 in

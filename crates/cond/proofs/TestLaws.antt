@@ -1,4 +1,4 @@
--- Two tests that stand at the start of one list of tokens, and whose parts end there, are one.
+-- Two tests at the start of one list of tokens, whose parts end there, are equal.
 use Rattle.std.proofs.Common.{◌≡◌, ◌<◌, ◌≤◌, true, false, List, ◌∷◌, length, sym, refl, ap, ◌∙◌, arith}
 use Rattle.std.specs.Prelude.{codes}
 use Rattle.cond.specs.Tokens.{Token, Name, Not, Is, In, Groups, Equal, Unequal}
@@ -8,7 +8,7 @@ use Rattle.cond.specs.Readings.{ends_neg}
 use Rattle.cond.proofs.Words.{state_same, no_state}
 use Rattle.cond.proofs.Operands.{is_apart, apart_at_end, operand_same, begins_none, no_operand}
 
--- the operand that a test begins with, and what stands behind it
+-- the operand that a test starts with, and what follows it
 abbrev pub subject : Test → Operand
 subject (stands name contrary state) = ref (whole name)
 subject (defined of contrary) = ref of
@@ -39,7 +39,7 @@ tail_apart (within g true) m h = refl
 tail_apart (within g false) m h = refl
 tail_apart (alone o) m h = apart_at_end m h
 
--- a token that goes on within a test doesn't stand behind it
+-- a token that continues a test does not follow it
 pub goes_on : (t : Token) (rest k : List Token) → ends_neg (t ∷ rest) ≡ false → ends_neg k ≡ true → t ∷ rest ≡ k → ⊥
 goes_on t rest k inner ended e =
     let same : ends_neg k ≡ ends_neg (t ∷ rest) = ap ends_neg (sym e) in cc

@@ -1,4 +1,4 @@
--- A text falls into the tokens that were cut off so far, and those of what is left.
+-- A text consists of the tokens read so far, and those of the rest.
 use Rattle.std.proofs.Common.{◌≡◌, ℕ, List, [], ◌∷◌, ◌++◌, ◌+◌, length, length-append, arith, sym, ap, ◌∙◌, subst, Some, None, append-nil, append_assoc}
 use Rattle.cond.specs.Tokens.{is_blank, behind_run, token_at}
 use Rattle.cond.specs.Seen.{kept}

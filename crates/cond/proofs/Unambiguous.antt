@@ -1,4 +1,4 @@
--- One list of tokens has at most one reading, up to where a part ends.
+-- One list of tokens has at most one reading, up to the end of a part.
 use Rattle.std.proofs.Common.{◌≡◌, true, false, List, [], ◌∷◌, sym, refl, ap}
 use Rattle.cond.specs.Tokens.{Token, Not, And, Or, Opening, Closing}
 use Rattle.cond.specs.Grammar.{Any, all, or, All, neg, and, Neg, not, primary, Primary, brackets, test, any_then, all_then, neg_then, primary_then}

@@ -1,4 +1,4 @@
--- What a condition says where a name that it doesn't mention has something else.
+-- The verdict of a condition if a name that it does not mention changes.
 use Rattle.std.proofs.Common.{◌≡◌, ℕ, Bool, true, false, ◌||◌, ◌&&◌, bytes_eq, not, List, [], ◌∷◌, ◌++◌, map, take, drop, Ok, sym, refl, ap, subst, ◌∙◌}
 use Rattle.std.specs.Prelude.{codes, box_value, string_bytes, Option, Some, option_map}
 use Rattle.group_tree.specs.Variables.{Scalar, Text}

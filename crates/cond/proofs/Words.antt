@@ -1,4 +1,4 @@
--- The words of fields and states are told apart by their fourth byte.
+-- The words of fields and states differ in their fourth byte.
 use Rattle.std.proofs.Common.{◌≡◌, ℕ, ◌==◌, cond, List, get_or, sym, refl, ap, ◌∙◌, arith}
 use Rattle.std.specs.Prelude.{codes}
 use Rattle.cond.specs.Grammar.{field_word, state_word}

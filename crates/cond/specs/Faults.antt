@@ -1,9 +1,9 @@
--- Which rule a fault names.
+-- The rule that an error names.
 use Rattle.std.specs.Prelude.{ℕ, Option, Some, None}
 use Rattle.cond.specs.declared.fault.CondFault.{CondFault}
 use Rattle.cond.specs.declared.fault.CondFault.TheVariants as fault
 
--- want of memory names no rule
+-- running out of memory breaks no rule
 abbrev pub number_of : CondFault → Option ℕ
 number_of (fault.BadToken at) = Some 501
 number_of (fault.Unexpected at) = Some 502

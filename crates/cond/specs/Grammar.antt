@@ -1,4 +1,4 @@
--- The grammar of conditions: a derivation for each rule, and the tokens that it stands for.
+-- The grammar of conditions: a derivation for each rule, and the tokens that it produces.
 use Rattle.std.specs.Prelude.{ℕ, suc, max, Bool, true, false, bytes_eq, codes, ℤ, Option, Some, None, List, [], ◌∷◌, if◌then◌else◌}
 use Rattle.cond.specs.Tokens.{Token, Name, Number, Text, Truth, Not, And, Or, Is, In, Groups, Host, Equal, Unequal, Dot, Opening, Closing}
 pub use Rattle.text_syntax.specs.Words.{Ref, whole, part, hostname, field_word}
@@ -12,12 +12,12 @@ state_word state.Failed = codes "failed"
 state_word state.Skipped = codes "skipped"
 state_word state.Succeeded = codes "succeeded"
 
--- what the word names
+-- the state with this name
 abbrev pub state_named : List ℕ → Option State
 state_named word =
     if bytes_eq word (codes "changed") then Some state.Changed else (if bytes_eq word (codes "failed") then Some state.Failed else (if bytes_eq word (codes "skipped") then Some state.Skipped else (if bytes_eq word (codes "succeeded") then Some state.Succeeded else None)))
 
--- ref = name | name "." field | "inventory_hostname", as in words
+-- ref = name | name "." field | "inventory_hostname", as in arguments
 
 -- operand = text | number | "true" | "True" | "false" | "False" | ref
 pub data Operand : Type 0 where
@@ -31,7 +31,7 @@ pub data Operand : Type 0 where
 --      | operand ( "==" | "!=" ) operand
 --      | text ["not"] "in" "group_names"
 --      | operand
--- The truth value says whether the contrary is asked: `not` stands there, or `!=`.
+-- the boolean is true if the test is negated by `not` or `!=`
 pub data Test : Type 0 where
   stands : List ℕ → Bool → State → Test
   defined : Ref → Bool → Test
@@ -60,7 +60,7 @@ mutual
     brackets : Any → Primary
     test : Test → Primary
 
--- The tokens of each, before those that follow it.
+-- the tokens of each, before those that follow it
 abbrev pub ref_then : Ref → List Token → List Token
 ref_then (whole name) rest = Name name ∷ rest
 ref_then (part name field) rest = Name name ∷ Dot ∷ Name (field_word field) ∷ rest

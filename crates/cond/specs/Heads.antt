@@ -1,5 +1,5 @@
--- The test that a list of tokens begins with, and the tokens behind it; where no test begins so, the tokens from the first one on with
--- which none goes on.
+-- The test that a list of tokens starts with, and the tokens after it. If it starts with no test, the tokens from the
+-- first one on that can't continue a test.
 use Rattle.std.specs.Prelude.{ℕ, Bool, true, false, bytes_eq, codes, Option, Some, None, Result, Ok, Err, List, [], ◌∷◌, if◌then◌else◌}
 use Rattle.cond.specs.Tokens.{Token, Name, Number, Text, Truth, Not, And, Or, Is, In, Groups, Host, Equal, Unequal, Dot, Opening, Closing}
 use Rattle.cond.specs.Grammar.{Ref, whole, part, hostname, Operand, text, number, truth, ref, Test, stands, defined, equals, within, alone, field_named, state_named}
@@ -17,7 +17,7 @@ abbrev pub behind : List Token → List Token
 behind [] = []
 behind (token ∷ rest) = rest
 
--- no dot stands behind a whole operand
+-- no dot follows a complete operand
 abbrev pub apart_by : Option Token → Operand → List Token → Head Operand
 apart_by (Some Dot) operand tokens = Err tokens
 apart_by token operand tokens = Ok (operand, tokens)
@@ -29,7 +29,7 @@ abbrev pub field_by : List ℕ → Option Field → List Token → Head Operand
 field_by name (Some field) tokens = apart (ref (part name field)) (behind tokens)
 field_by name None tokens = Err tokens
 
--- behind the dot
+-- after the dot
 abbrev pub field_word_by : Option Token → List ℕ → List Token → Head Operand
 field_word_by (Some (Name word)) name tokens = field_by name (field_named word) tokens
 field_word_by token name tokens = Err tokens
@@ -37,7 +37,7 @@ field_word_by token name tokens = Err tokens
 unfoldable pub field_head : List ℕ → List Token → Head Operand
 field_head name tokens = field_word_by (first tokens) name tokens
 
--- behind a name
+-- after a name
 abbrev pub name_by : Option Token → List ℕ → List Token → Head Operand
 name_by (Some Dot) name tokens = field_head name (behind tokens)
 name_by token name tokens = Ok (ref (whole name), tokens)
@@ -56,7 +56,7 @@ operand_by token tokens = Err tokens
 unfoldable pub operand_head : List Token → Head Operand
 operand_head tokens = operand_by (first tokens) tokens
 
--- whether such a token stands first
+-- whether the first token is this one
 abbrev pub is_or : Option Token → Bool
 is_or (Some Or) = true
 is_or token = false
@@ -73,7 +73,7 @@ abbrev pub is_closing : Option Token → Bool
 is_closing (Some Closing) = true
 is_closing token = false
 
--- whether `not` does, and what is behind it
+-- whether the first token is `not`, and the tokens after it
 abbrev pub is_not : Option Token → Bool
 is_not (Some Not) = true
 is_not token = false
@@ -86,7 +86,7 @@ abbrev pub state_by : Ref → Bool → Option State → List Token → Head Test
 state_by (whole name) contrary (Some state) tokens = Ok (stands name contrary state, behind tokens)
 state_by of contrary state tokens = Err tokens
 
--- behind `is` and `not`
+-- after `is` and `not`
 abbrev pub asked_by : Option Token → Ref → Bool → List Token → Head Test
 asked_by (Some (Name word)) of contrary tokens =
     if bytes_eq word (codes "defined") then Ok (defined of contrary, behind tokens) else state_by of contrary (state_named word) tokens
@@ -95,7 +95,7 @@ asked_by token of contrary tokens = Err tokens
 unfoldable pub asked_head : Ref → Bool → List Token → Head Test
 asked_head of contrary tokens = asked_by (first tokens) of contrary tokens
 
--- from `is` on, and behind it
+-- from `is` on, and after it
 abbrev pub is_head : Operand → List Token → List Token → Head Test
 is_head (ref of) is tokens = asked_head of (is_not (first tokens)) (behind_not (first tokens) tokens)
 is_head operand is tokens = Err is
@@ -104,11 +104,11 @@ abbrev pub right_by : Operand → Bool → Head Operand → Head Test
 right_by left contrary (Ok right) = Ok (equals left contrary right.0, right.1)
 right_by left contrary (Err stop) = Err stop
 
--- behind `==` or `!=`
+-- after `==` or `!=`
 unfoldable pub equals_head : Operand → Bool → List Token → Head Test
 equals_head left contrary tokens = right_by left contrary (operand_head tokens)
 
--- behind `in`
+-- after `in`
 abbrev pub groups_by : Option Token → List ℕ → Bool → List Token → Head Test
 groups_by (Some Groups) group contrary tokens = Ok (within group contrary, behind tokens)
 groups_by token group contrary tokens = Err tokens
@@ -117,16 +117,16 @@ abbrev pub in_by : Option Token → List ℕ → Bool → List Token → Head Te
 in_by (Some In) group contrary tokens = groups_by (first (behind tokens)) group contrary (behind tokens)
 in_by token group contrary tokens = Err tokens
 
--- behind a text and `not`
+-- after a string and `not`
 unfoldable pub in_head : List ℕ → Bool → List Token → Head Test
 in_head group contrary tokens = in_by (first tokens) group contrary tokens
 
--- behind the operand, and behind `not`
+-- after the operand, and after `not`
 abbrev pub within_head : Operand → Bool → List Token → List Token → Head Test
 within_head (text group) contrary after tokens = in_head group contrary tokens
 within_head operand contrary after tokens = Err after
 
--- behind the operand that the test begins with
+-- after the operand that the test starts with
 abbrev pub tail_by : Option Token → Operand → List Token → Head Test
 tail_by (Some Is) operand tokens = is_head operand tokens (behind tokens)
 tail_by (Some Equal) operand tokens = equals_head operand false (behind tokens)

@@ -1,4 +1,4 @@
--- What a condition means on a host: true, false, or undefined with a name.
+-- The meaning of a condition on a host: true, false, or undefined with a name.
 use Rattle.std.specs.Prelude.{ℕ, Bool, true, false, ◌&&◌, nat_lt, nat_eq, bytes_eq, codes, pos, Option, Some, None, option_map, Result, Ok, Err, List, [], ◌∷◌, length}
 use Rattle.std.specs.Prelude as std
 use Rattle.std.specs.Ordering.{int_eq}
@@ -10,12 +10,12 @@ use Rattle.text_syntax.specs.declared.field.Field.TheVariants as field
 use Rattle.cond.specs.declared.states.State.{State}
 use Rattle.cond.specs.declared.states.State.TheVariants as state
 
--- what a name may have: a registered result, as a whole, or a scalar
+-- what a name refers to: a registered result as a whole, or a scalar
 pub data Value : Type 0 where
   Registered : Value
   Plain : Scalar → Value
 
--- what a host has: its names, the fields of its registered results, the groups that hold it, its own name
+-- what conditions read of a host: its names, the fields of its registered results, its groups, its own name
 pub record Environment : Type 0 where
   pub value : List ℕ → Option Value
   pub field : List ℕ → Field → Option Scalar
@@ -34,7 +34,7 @@ abbrev pub named : List ℕ → Option Value → Found
 named name (Some value) = Ok value
 named name None = Err name
 
--- what a host has for a reference
+-- the value of a reference on a host
 abbrev pub value_at : Environment → Ref → Option Value
 value_at e (whole name) = e.value name
 value_at e (part name field) = option_map Plain (e.field name field)
@@ -49,7 +49,7 @@ operand_value e (number value) = Ok (Plain (Int value))
 operand_value e (truth value) = Ok (Plain (Truth value))
 operand_value e (ref of) = ref_value e of
 
--- a value alone: a truth value is itself, a number other than 0, a text that isn't empty and a registered result are true
+-- a value on its own: a boolean is itself; a number other than 0, a nonempty string and a registered result are true
 abbrev pub scalar_holds : Scalar → Bool
 scalar_holds (Text bytes) = nat_lt 0 (length bytes)
 scalar_holds (Int value) = std.not (int_eq value (pos 0))
@@ -59,7 +59,7 @@ abbrev pub value_holds : Value → Bool
 value_holds Registered = true
 value_holds (Plain scalar) = scalar_holds scalar
 
--- of the same kind, and the same
+-- of the same type and equal
 abbrev pub same_scalar : Scalar → Scalar → Bool
 same_scalar (Text a) (Text b) = bytes_eq a b
 same_scalar (Int a) (Int b) = int_eq a b
@@ -82,7 +82,7 @@ abbrev pub contrary_if : Bool → Bool → Bool
 contrary_if true b = std.not b
 contrary_if false b = b
 
--- the verdict, turned round where the contrary is asked
+-- the verdict, negated if the test is negated
 abbrev pub turned : Bool → Verdict → Verdict
 turned contrary (Ok b) = Ok (contrary_if contrary b)
 turned contrary (Err name) = Err name
@@ -91,7 +91,7 @@ abbrev pub found_holds : Found → Verdict
 found_holds (Ok value) = Ok (value_holds value)
 found_holds (Err name) = Err name
 
--- the right side is looked up where the left one has a value
+-- the right side is evaluated only if the left one has a value
 abbrev pub found_same : Found → Found → Verdict
 found_same (Err name) right = Err name
 found_same (Ok left) (Err name) = Err name
@@ -101,14 +101,14 @@ abbrev pub is_found : Found → Bool
 is_found (Ok value) = true
 is_found (Err name) = false
 
--- a field of the registered result; one that succeeded isn't failed
+-- a field of the registered result; a result that has not failed has succeeded
 abbrev pub state_holds : Environment → List ℕ → State → Verdict
 state_holds e name state.Changed = found_holds (ref_value e (part name field.Changed))
 state_holds e name state.Failed = found_holds (ref_value e (part name field.Failed))
 state_holds e name state.Skipped = found_holds (ref_value e (part name field.Skipped))
 state_holds e name state.Succeeded = turned true (found_holds (ref_value e (part name field.Failed)))
 
--- a group of this name other than `all` holds the host
+-- a group with this name other than `all` contains the host
 abbrev pub is_within : Environment → List ℕ → Bool
 is_within e group = std.not (bytes_eq group (codes "all")) && e.in_group group
 
@@ -119,7 +119,7 @@ test_meaning e (equals left contrary right) = turned contrary (found_same (opera
 test_meaning e (within group contrary) = Ok (contrary_if contrary (is_within e group))
 test_meaning e (alone operand) = found_holds (operand_value e operand)
 
--- from left to right; what isn't evaluated can't be undefined
+-- from left to right; what is not evaluated can't be undefined
 abbrev pub either : Verdict → Verdict → Verdict
 either (Ok true) right = Ok true
 either (Ok false) right = right
@@ -147,6 +147,6 @@ abbrev mutual
   primary_meaning e (brackets a) = any_meaning e a
   primary_meaning e (test t) = test_meaning e t
 
--- what a condition means
+-- the meaning of a condition
 abbrev pub meaning : Environment → Any → Verdict
 meaning = any_meaning

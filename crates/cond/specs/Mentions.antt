@@ -1,4 +1,5 @@
--- The names that a condition mentions, from left to right. A group's name and a text are none of them, nor is the word for the host's own name.
+-- The names that a condition mentions, from left to right. Names of groups, strings and the word for the host's own
+-- name don't count.
 use Rattle.std.specs.Prelude.{◌≡◌, ℕ, Bool, false, List, [], ◌∷◌, ◌++◌, map, take, drop, string_bytes, box_value}
 use Rattle.std.specs.List.{flat_map}
 use Rattle.group_tree.specs.Names.{Name, same_name, is_among}
@@ -14,7 +15,7 @@ use Rattle.cond.specs.declared.condition.Cond.{Cond}
 use Rattle.cond.specs.Trees.{written, bytes_of, trees_of}
 use Rattle.text_syntax.specs.declared.field.Field.{Field}
 
--- the name that is looked up for a reference: as a whole, or for a field
+-- the name that a reference reads, as a whole or for a field
 abbrev pub names_in_ref : grammar.Ref → List Name
 names_in_ref (grammar.whole name) = name ∷ []
 names_in_ref (grammar.part name field) = name ∷ []
@@ -33,7 +34,7 @@ names_in_test (grammar.equals left contrary right) = names_in_operand left ++ na
 names_in_test (grammar.within group contrary) = []
 names_in_test (grammar.alone operand) = names_in_operand operand
 
--- lists, one behind the other
+-- the lists, concatenated
 abbrev pub joined : List (List Name) → List Name
 joined lists = flat_map (λ names. names) lists
 
@@ -49,12 +50,12 @@ names_step text (tree.Denied test) = names_in_test (written text test)
 abbrev pub names_in_tree : List ℕ → Tree → List Name
 names_in_tree text = fold-Tree (List Name) (names_step text)
 
--- in a part of this text, with these trees
+-- the names in a part of this text, with these trees
 abbrev pub names_in_part : List ℕ → List Tree → Part → List Name
 names_in_part text trees (part.Test denied bytes test) = names_in_test (written text test)
 names_in_part text trees (part.Trees bytes count) = joined (map (names_in_tree text) trees)
 
--- in each part; their texts stand one behind the other, and so do their trees
+-- the names in each part; their texts are concatenated, and so are their trees
 abbrev pub names_by_part : List ℕ → List Tree → List Part → List (List Name)
 names_by_part text trees [] = []
 names_by_part text trees (part ∷ parts) =
@@ -68,7 +69,7 @@ names_of condition =
 abbrev pub mentions : Name → Cond → Bool
 mentions name condition = is_among name (names_of condition)
 
--- The two differ in what this name has, if in anything.
+-- the two differ at most in the value of this name
 pub record AgreeBeside (name : Name) (e other : Environment) : Type 0 where
   pub value : (of : Name) → same_name name of ≡ false → e.value of ≡ other.value of
   pub field : (of : Name) (field : Field) → same_name name of ≡ false → e.field of field ≡ other.field of field

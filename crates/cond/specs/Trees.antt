@@ -1,4 +1,4 @@
--- What trees, parts and whole conditions say.
+-- The meanings of trees, parts and complete conditions.
 use Rattle.std.specs.Prelude.{ℕ, ◌+◌, Bool, true, false, Result, Ok, Err, List, [], ◌∷◌, map, take, drop, string_bytes, box_value}
 use Rattle.group_tree.specs.Scalars.{lent_scalar}
 use Rattle.cond.specs.Grammar as grammar
@@ -26,7 +26,7 @@ abbrev pub had : Value → meaning.Value
 had value.Registered = meaning.Registered
 had (value.Plain scalar) = meaning.Plain (lent_scalar scalar)
 
--- what stands at the places in a text
+-- the reference at these spans of a text
 abbrev pub written_ref : List ℕ → Ref → grammar.Ref
 written_ref text (ref.Whole name) = grammar.whole (piece text name)
 written_ref text (ref.Part name field) = grammar.part (piece text name) field
@@ -45,7 +45,7 @@ written text (test.Equals contrary left right) = grammar.equals (written_operand
 written text (test.Within contrary group) = grammar.within (piece text group) contrary
 written text (test.Alone operand) = grammar.alone (written_operand text operand)
 
--- one of them holds, or all do, from left to right
+-- one of them holds, or all do, evaluated from left to right
 abbrev pub any_of : List Verdict → Verdict
 any_of [] = Ok false
 any_of (first ∷ others) = either first (any_of others)
@@ -62,11 +62,11 @@ verdict_step text e (tree.Negated part) = turned true (box_value part)
 verdict_step text e (tree.Leaf test) = test_meaning e (written text test)
 verdict_step text e (tree.Denied test) = turned true (test_meaning e (written text test))
 
--- what the tree of a text says
+-- the verdict of the tree of a text
 abbrev pub tree_verdict : List ℕ → Environment → Tree → Verdict
 tree_verdict text e = fold-Tree Verdict (verdict_step text e)
 
--- how many bytes the text of a part has, and how many trees the part has
+-- the length of a part's text in bytes, and the number of its trees
 abbrev pub bytes_of : Part → ℕ
 bytes_of (part.Test denied bytes test) = bytes
 bytes_of (part.Trees bytes count) = bytes
@@ -75,18 +75,18 @@ abbrev pub trees_of : Part → ℕ
 trees_of (part.Test denied bytes test) = 0
 trees_of (part.Trees bytes count) = count
 
--- what a part of this text, with these trees, says
+-- the verdict of a part of this text, with these trees
 abbrev pub part_verdict : Environment → List ℕ → List Tree → Part → Verdict
 part_verdict e text trees (part.Test denied bytes test) = turned denied (test_meaning e (written text test))
 part_verdict e text trees (part.Trees bytes count) = all_of (map (tree_verdict text e) trees)
 
--- what each part says; their texts stand one behind the other, and so do their trees
+-- the verdict of each part; their texts are concatenated, and so are their trees
 abbrev pub verdicts : Environment → List ℕ → List Tree → List Part → List Verdict
 verdicts e text trees [] = []
 verdicts e text trees (part ∷ parts) =
     part_verdict e (take (bytes_of part) text) (take (trees_of part) trees) part ∷ verdicts e (drop (bytes_of part) text) (drop (trees_of part) trees) parts
 
--- how many bytes their texts have, and how many trees they have
+-- the length of their texts in bytes, and the number of their trees
 abbrev pub all_bytes : List Part → ℕ
 all_bytes [] = 0
 all_bytes (part ∷ parts) = bytes_of part + all_bytes parts
@@ -95,7 +95,7 @@ abbrev pub all_trees : List Part → ℕ
 all_trees [] = 0
 all_trees (part ∷ parts) = trees_of part + all_trees parts
 
--- what a condition says: all its parts hold
+-- the verdict of a condition: all its parts hold
 abbrev pub verdict_of : Environment → Cond → Verdict
 verdict_of e condition = all_of (verdicts e (string_bytes condition.text) condition.trees.items condition.parts.items)
 

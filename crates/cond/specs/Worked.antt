@@ -1,11 +1,11 @@
--- A small host, written out, against which the definitions are read.
+-- A small host on which the definitions are checked.
 use Rattle.std.specs.Prelude.{ℕ, Bool, true, false, ◌||◌, bytes_eq, codes, pos, Option, Some, None, List, [], if◌then◌else◌}
 use Rattle.group_tree.specs.Variables.{Scalar, Text, Int, Truth}
 use Rattle.cond.specs.Meaning.{Value, Registered, Plain, Environment}
 use Rattle.text_syntax.specs.declared.field.Field.{Field}
 use Rattle.text_syntax.specs.declared.field.Field.TheVariants.{Rc, Stdout, Stderr, Changed, Failed, Skipped}
 
--- what ran: `r` and `both`
+-- a result of a program that ran: `r` and `both`
 abbrev pub ran : Field → Option Scalar
 ran Rc = Some (Int (pos 3))
 ran Stdout = Some (Text (codes "out"))
@@ -14,7 +14,7 @@ ran Changed = Some (Truth true)
 ran Failed = Some (Truth true)
 ran Skipped = Some (Truth false)
 
--- what was skipped: `s`
+-- a skipped result: `s`
 abbrev pub skipped : Field → Option Scalar
 skipped Rc = None
 skipped Stdout = Some (Text [])

@@ -1,20 +1,20 @@
-//! A condition that was read.
+//! A parsed condition.
 ghost use Rattle.std.specs.Prelude.{◌≡◌};
 ghost use Rattle.cond.specs.Trees.{bytes_of, trees_of};
 
 use crate::leaf::Test;
 use crate::tree::Tree;
 
-/// What one text says, and how many bytes it has. It owns nothing, so that dropping a long list of parts takes no time.
+/// What one text specifies, and its length in bytes. It owns nothing, so dropping a long list of parts takes no time.
 #[derive(Clone, Copy, Debug)]
 pub enum Part {
-    /// A test, or its contrary.
+    /// A test, or its negation.
     Test {
         denied: bool,
         bytes: u16,
         test: Test,
     },
-    /// So many of the condition's trees, which all have to hold.
+    /// The next `count` trees of the condition, which must all hold.
     Trees {
         bytes: u16,
         count: usize,
@@ -22,7 +22,7 @@ pub enum Part {
 }
 
 impl Part {
-    /// How many bytes of the text are its own.
+    /// Returns the number of bytes of the text that belong to this part.
     pub fn bytes(self) -> u16
         ensures { result ≡ bytes_of self }
     {
@@ -32,7 +32,7 @@ impl Part {
         }
     }
 
-    /// How many of the trees are its own.
+    /// Returns the number of trees that belong to this part.
     pub fn trees(self) -> usize
         ensures { result ≡ trees_of self }
     {
@@ -43,8 +43,8 @@ impl Part {
     }
 }
 
-/// A condition: parts that all have to hold. Their texts stand one behind the other in one text, and so do their trees, so
-/// that no part of a list of many tests takes memory of its own.
+/// A condition: parts that must all hold. Their texts are concatenated in one string and their trees in one list. So
+/// no part of a list of many tests allocates memory of its own.
 #[derive(Debug, Drop)]
 pub struct Cond {
     pub text: String,

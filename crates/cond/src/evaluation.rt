@@ -14,8 +14,8 @@ use crate::tree::Tree;
 use group_tree::Scalar;
 use text_syntax::Field;
 
-/// Whether the condition holds on the host, or the first name without a value that has to be looked up. `or` and `and`
-/// go from left to right and end as soon as they are decided. It takes no memory.
+/// Returns whether the condition holds on the host, or the first name without a value that the evaluation needs. `or`
+/// and `and` are evaluated from left to right and stop as soon as they are decided. Does not allocate.
 pub fn eval<'c, E: Env>(cond: &'c Cond, env: &E) -> Result<bool, Undefined<'c>>
     ensures { told result ≡ verdict_of (E.environment env.now) cond.now }
 {
@@ -32,7 +32,7 @@ pub fn eval<'c, E: Env>(cond: &'c Cond, env: &E) -> Result<bool, Undefined<'c>>
     Ok(true)
 }
 
-// A part with its own text and trees.
+// Evaluates a part with its own text and trees.
 fn part_holds<'c, E: Env>(
     text: &'c [u8],
     part: Part,
@@ -122,7 +122,7 @@ fn test_holds<'c, E: Env>(text: &'c [u8], test: Test, env: &E) -> Result<bool, U
     }
 }
 
-// The verdict, turned round where the contrary is asked.
+// Negates the verdict if the test is negated.
 fn turned(contrary: bool, holds: bool) -> bool
     ensures { result ≡ contrary_if contrary holds }
 {
@@ -143,7 +143,7 @@ fn state_of<'c, E: Env>(name: &'c str, state: State, env: &E) -> Result<bool, Un
     Ok(scalar_holds(scalar) != (state == State::Succeeded))
 }
 
-// A group of this name other than `all` holds the host.
+// Returns whether a group with this name other than `all` contains the host.
 fn within<E: Env>(group: &str, env: &E) -> bool
     ensures { result ≡ is_within (E.environment env.now) group.now }
 {
@@ -198,7 +198,7 @@ fn field_named<'c: 'v, 'v, E: Env>(
     }
 }
 
-// What a value says alone.
+// Returns whether a value holds on its own.
 fn holds(value: Value<'_>) -> bool
     ensures { result ≡ value_holds (had value.entry) }
 {
@@ -218,7 +218,7 @@ fn scalar_holds(scalar: Scalar<'_>) -> bool
     }
 }
 
-// Of one kind, and the same; a registered result as a whole equals nothing.
+// Returns whether two values have the same type and are equal. A registered result as a whole equals nothing.
 fn same(left: Value<'_>, right: Value<'_>) -> bool
     ensures { result ≡ same_value (had left.entry) (had right.entry) }
 {

@@ -1,20 +1,20 @@
-//! Why a text is no condition.
+//! Why a text is not a valid condition.
 ghost use Rattle.std.specs.Prelude.{◌≡◌};
 ghost use Rattle.cond.specs.Faults.{number_of};
 
 use std::alloc::{AllocError, AllocFailed};
 use thiserror::Error;
 
-/// Why a text is no condition: the first rule that it breaks, and the place, in bytes from 0, where it does.
+/// Why a text is not a valid condition: the first rule that it breaks, and the byte offset, from 0, where it does.
 #[derive(Clone, Copy, Debug, PartialEq, Eq, Error)]
 pub enum CondFault {
-    /// No token stands there, or a text in quotes begins there and doesn't end.
+    /// No token starts here, or a quoted string starts here and does not end.
     #[error("no token at byte {at}")]
     BadToken { at: usize },
-    /// The token there continues no condition, or the text ends too early.
+    /// The token here can't continue a condition, or the text ends too early.
     #[error("unexpected at byte {at}")]
     Unexpected { at: usize },
-    /// The bracket or `not` there is nested over 32 deep.
+    /// The bracket or `not` here is nested over 32 deep.
     #[error("nested too deep at byte {at}")]
     TooDeep { at: usize },
     /// The text is longer than 4,096 bytes.
@@ -25,7 +25,7 @@ pub enum CondFault {
 }
 
 impl CondFault {
-    /// The number of the rule that is broken; want of memory breaks none.
+    /// Returns the error number. Running out of memory has none.
     pub fn number(&self) -> Option<u16>
         ensures { result ≡ number_of self.now }
     {

@@ -1,4 +1,4 @@
-//! The token that a text begins with.
+//! The token at the start of a text.
 ghost use Rattle.std.specs.Prelude.{◌≡◌, ◌<◌, ◌^◌, ◌∷◌};
 ghost use Rattle.std.specs.List.{prefix_len};
 ghost use Rattle.cond.specs.Tokens as spec;
@@ -8,7 +8,8 @@ ghost use Rattle.cond.specs.Seen.{seen, cut};
 use crate::kind::Kind;
 use text_syntax::{is_digit, is_letter, is_name_byte};
 
-/// The token that the text begins with, and what is behind it; the first byte tells its form.
+/// Returns the token that the text starts with, and the text after it. The first byte determines the form of the
+/// token.
 pub(crate) fn token_at(text: &str) -> Option<(Kind<'_>, &str)>
     ensures { cut result ≡ spec.token_at text.now }
 {
@@ -88,7 +89,7 @@ fn number_at(text: &str) -> Option<(Kind<'_>, &str)>
     }
 }
 
-// The text begins with a minus, and the digits stand directly behind it.
+// The text starts with a minus, directly followed by the digits.
 fn negative_at<'t>(text: &'t str, behind: &str) -> Option<(Kind<'t>, &'t str)>
     requires { text.now ≡ 45 ∷ behind.now }
     ensures { cut result ≡ spec.negative_at behind.now }
@@ -100,7 +101,7 @@ fn negative_at<'t>(text: &'t str, behind: &str) -> Option<(Kind<'t>, &'t str)>
     }
 }
 
-// What stands before the quote that closes the text.
+// Reads up to the quote that closes the string.
 #[tactic(auto, unfolding(crate::specs::Tokens::text_at))]
 fn text_at(quote: u8, text: &str) -> Option<(Kind<'_>, &str)>
     requires { quote < 128 }
@@ -110,7 +111,7 @@ fn text_at(quote: u8, text: &str) -> Option<(Kind<'_>, &str)>
     ended_by(quote, Kind::Text(written), closed)
 }
 
-// The token, where this byte stands first.
+// Returns the token if the text starts with this byte.
 fn ended_by<'t>(wanted: u8, kind: Kind<'t>, text: &'t str) -> Option<(Kind<'t>, &'t str)>
     requires { wanted < 128 }
     ensures { cut result ≡ spec.ended_by wanted (seen kind.entry) text.now }

@@ -1,4 +1,4 @@
-//! How one condition is joined to the next.
+//! How a condition is added to a conjunction.
 ghost use Rattle.std.specs.Prelude.{◌≡◌, ◌<◌, ◌≤◌, ◌++◌, ◌∷◌, [], Ok, Err, IfOk, IfErr, OnOk, OnErr, length, string_bytes};
 ghost use Rattle.cond.specs.Conditions.{most_bytes, most_depth, Writes, IsMeant, IsAdded, Breaks};
 ghost use Rattle.cond.specs.Grammar.{Any, any_depth};
@@ -15,7 +15,7 @@ use crate::tree::Tree;
 use std::alloc::{AllocError, Global};
 
 impl Conjunction {
-    /// None yet. It takes no memory.
+    /// Creates an empty conjunction. Does not allocate.
     pub fn new(alloc: Global) -> Conjunction
         ensures { (e : Environment) → verdicts_on result e ≡ [] }
     {
@@ -27,7 +27,8 @@ impl Conjunction {
         }
     }
 
-    /// None yet; it asks for the memory of so many parts. Texts, trees and tokens take theirs as they come.
+    /// Creates an empty conjunction with memory for this many parts. Texts, trees and tokens allocate theirs as they
+    /// are added.
     pub fn with_capacity(alloc: Global, parts: usize) -> Result<Conjunction, AllocError>
         ensures { IfOk result (λ none. (e : Environment) → verdicts_on none e ≡ []) }
     {
@@ -39,9 +40,9 @@ impl Conjunction {
         })
     }
 
-    /// The condition that the text writes is joined to the others. A text that is too long is refused first, any other by the
-    /// first place in it where a rule is broken; a refusal leaves the others as they were. Its time is linear in the text,
-    /// but for what it takes to move the others where there was no room for one more.
+    /// Adds the condition that the text contains. A text over the length limit is rejected for its length, any other
+    /// at the first place that breaks a rule. If it is rejected, the earlier conditions stay as they were. Takes time
+    /// linear in the text, plus the time to move the earlier conditions if a list has to grow.
     pub fn add(&mut self, alloc: Global, text: &str) -> Result<(), CondFault>
         ensures ok { OnOk result (IsAdded text.now (verdicts_on self.old) (verdicts_on self.new)) }
         ensures err { IfErr result (λ fault. Breaks fault text.now) }
@@ -65,7 +66,7 @@ impl Conjunction {
         }
     }
 
-    /// A truth value is joined to the others, or memory was refused and they are as they were.
+    /// Adds a boolean. If an allocation fails, the earlier conditions stay as they were.
     pub fn add_truth(&mut self, value: bool) -> Result<(), AllocError>
         ensures ok { OnOk result ((e : Environment) → verdicts_on self.new e ≡ verdicts_on self.old e ++ Ok value ∷ []) }
         ensures left { OnErr result ((e : Environment) → verdicts_on self.new e ≡ verdicts_on self.old e) }
@@ -74,7 +75,7 @@ impl Conjunction {
         push_tree(&mut self.text, &mut self.parts, &mut self.trees, "", tree)
     }
 
-    /// All of them as one condition; without any it always holds.
+    /// Returns all of them as one condition. An empty conjunction always holds.
     pub fn finish(self) -> Cond
         ensures { (e : Environment) → verdict_of e result ≡ all_of (verdicts_on self e) }
     {
@@ -86,7 +87,7 @@ impl Conjunction {
     }
 }
 
-// One part more. The memory for all lists is had before any of them grows.
+// Adds one part. The memory for all lists is allocated before any of them grows.
 #[inline(always)]
 fn push_tree(
     text: &mut String,
@@ -135,7 +136,7 @@ fn push_tree(
             let count = all.len();
             let part = Part::Trees { bytes, count };
             if trees.is_empty() {
-                // The first trees bring their memory with them.
+                // The first trees bring their own memory.
                 push_part(text, parts, more, part)?;
                 *trees = all;
                 Ok(())

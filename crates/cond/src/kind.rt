@@ -1,6 +1,6 @@
 //! The tokens of a condition's text.
 
-/// What a token is. The reserved words are kinds of their own.
+/// The kind of a token. Each reserved word is a kind of its own.
 #[derive(Clone, Copy, Debug)]
 pub(crate) enum Kind<'t> {
     Name(&'t str),

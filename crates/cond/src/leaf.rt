@@ -1,9 +1,9 @@
-//! The tests that a condition is made of; words stand as places in its text.
+//! The tests that a condition consists of; words are stored as offsets in its text.
 use crate::span::Span;
 use crate::states::State;
 use text_syntax::Field;
 
-/// What a condition looks up: a name, a field of the result registered under a name, or the host's own name.
+/// What a condition reads: a name, a field of the result registered under a name, or the host's own name.
 #[derive(Clone, Copy, Debug)]
 pub enum Ref {
     Whole(Span),
@@ -19,8 +19,8 @@ pub enum Operand {
     Ref(Ref),
 }
 
-/// A test without brackets, `not`, `and` and `or`. `contrary` says that the text asks for the contrary, by `is not`,
-/// `!=` or `not in`. It stands first, where it takes no room beside the kind of the test.
+/// A test without brackets, `not`, `and` and `or`. `contrary` is set if the text negates the test by `is not`, `!=`
+/// or `not in`. It comes first, where it takes no space next to the tag of the variant.
 #[derive(Clone, Copy, Debug)]
 pub enum Test {
     Stands {

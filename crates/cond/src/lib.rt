@@ -1,4 +1,4 @@
-//! Conditions: what decides whether a step runs on a host, and whether it changed or failed.
+//! Conditions: they decide whether a step runs on a host, and whether it changed or failed.
 #![tactic(auto)]
 
 mod condition;

@@ -1,11 +1,11 @@
-//! Tokens as they are kept: words by their places in the text.
+//! Tokens as stored: words are offsets in the text.
 ghost use Rattle.std.specs.Prelude.{◌≡◌, ℕ, ◌+◌, ◌≤◌, List};
 ghost use Rattle.cond.specs.Seen.{seen, kept, StandsAt, word_length};
 
 use crate::kind::Kind;
 use crate::span::{Span, span_of};
 
-/// What a token is.
+/// The kind of a token.
 #[derive(Clone, Copy, Debug)]
 pub(crate) enum Mark {
     Name(Span),
@@ -26,7 +26,7 @@ pub(crate) enum Mark {
     Closing,
 }
 
-/// The token that begins at this place. A quoted text begins behind its quote.
+/// Returns the token that starts at this offset. A quoted string starts after its quote.
 pub(crate) fn mark_at(at: usize, kind: Kind<'_>) -> Mark
     requires { at + word_length (seen kind) ≤ 4096 }
     ensures { (text : List ℕ) → StandsAt text at (seen kind.entry) → kept text result ≡ seen kind.entry }

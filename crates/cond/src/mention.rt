@@ -11,15 +11,15 @@ use crate::span::{split, word_in};
 use crate::tree::Tree;
 
 impl Cond {
-    /// Whether it mentions the name: looks it up, or a field of the result that is registered under it, also where it only asks
-    /// whether the name is defined. It takes no memory.
+    /// Returns whether the condition mentions the name. It does if it reads the name or a field of the result
+    /// registered under it. A test whether the name is defined counts too. Does not allocate.
     pub fn mentions(&self, name: &str) -> bool
         ensures { result ≡ mentions name.now self.now }
     {
         self.first_mentioned(&Single { name }).is_some()
     }
 
-    /// The first name, from left to right, that it mentions and that is one of these. It takes no memory.
+    /// Returns the first name, from left to right, that it mentions and that is in the set. Does not allocate.
     #[tactic(auto, using(crate::proofs::Mentioned::first_joined))]
     pub fn first_mentioned<N: Names>(&self, names: &N) -> Option<&str>
         ensures { option_map (λ name. name.now) result ≡ find (N.holds names.now) (names_of self.now) }
@@ -110,7 +110,7 @@ fn first_in_ref<'c, N: Names>(text: &'c [u8], of: Ref, names: &N) -> Option<&'c 
     }
 }
 
-// The name, where it is one of these.
+// Returns the name if it is in the set.
 fn if_named<'c, N: Names>(name: &'c str, names: &N) -> Option<&'c str>
     ensures { option_map (λ name. name.now) result ≡ find (N.holds names.now) (name.now ∷ []) }
 {

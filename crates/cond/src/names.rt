@@ -1,17 +1,17 @@
-//! Names that are looked for.
+//! Sets of names to search for.
 ghost use Rattle.std.specs.Prelude.{◌≡◌, Bool};
 ghost use Rattle.group_tree.specs.Names.{Name, same_name};
 
-/// Names, of which one is looked for in a condition.
+/// A set of names that a condition is searched for.
 pub trait Names {
     ghost holds: { Self → Name → Bool };
 
-    /// Whether the name is one of them.
+    /// Returns whether the set contains the name.
     fn has(&self, name: &str) -> bool
         ensures { result ≡ holds self.now name.now };
 }
 
-/// One name.
+/// A set of one name.
 #[derive(Clone, Copy, Debug)]
 pub(crate) struct Single<'n> {
     pub(crate) name: &'n str,

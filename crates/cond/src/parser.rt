@@ -1,7 +1,7 @@
-//! From tokens to a tree, down the rules of the grammar. What nests has room for so many more brackets and `not`s.
+//! From tokens to a tree, by recursive descent. `room` is the number of brackets and `not`s that can still be nested.
 //!
-//! The way of a single test of many tokens is one function after inlining; what nests or goes on is called, so that its locals are not set
-//! up on that way.
+//! Inlining makes the path of a single test one function. What nests or continues is called, so its locals are not
+//! set up on that path.
 ghost use Rattle.std.specs.Prelude.{◌≡◌, ℕ, List, ◌<◌, ◌++◌, ◌∷◌, [], Some, IfOk, IfErr, length, map, true};
 ghost use Rattle.cond.specs.Grammar as grammar;
 ghost use Rattle.cond.specs.Meaning.{Environment, any_meaning, all_meaning, neg_meaning, primary_meaning, test_meaning, turned};
@@ -45,7 +45,7 @@ pub(crate) fn any(
     }
 }
 
-// The whole chain, where its first part was read and `or` follows.
+// Reads the complete chain, after its first part and if `or` follows.
 #[inline(never)]
 #[cycle(parser)]
 fn alternatives(
@@ -99,7 +99,7 @@ fn all(alloc: Global, source: &Source<'_>, from: usize, room: usize) -> Result<(
     }
 }
 
-// The whole chain, where its first part was read and `and` follows.
+// Reads the complete chain, after its first part and if `and` follows.
 #[inline(never)]
 #[cycle(parser)]
 fn conjuncts(
@@ -233,7 +233,7 @@ fn bracketed(
     }
 }
 
-// A test that nothing but `and`, `or`, a closing bracket or the end follows.
+// Reads a test that only `and`, `or`, a closing bracket or the end can follow.
 #[inline(always)]
 fn leaf(source: &Source<'_>, from: usize, room: usize) -> Result<(Tree, usize), Stop>
     requires { first (ahead source.now from) ≡ Some token.Opening → ⊥ }
@@ -255,7 +255,7 @@ fn leaf(source: &Source<'_>, from: usize, room: usize) -> Result<(Tree, usize), 
     }
 }
 
-// Whether a test or what stands in brackets may end here.
+// Returns whether a test or a bracketed condition can end here.
 fn ends(source: &Source<'_>, from: usize) -> bool
     ensures { result ≡ readings.ends_neg (ahead source.now from) }
 {
@@ -298,7 +298,7 @@ fn is_closing(source: &Source<'_>, from: usize) -> bool
     matches!(source.first(from), Some(Mark::Closing))
 }
 
-// Each of these gives a tree its verdict in terms of its parts'.
+// Each of these gives a tree its verdict in terms of the verdicts of its parts.
 pub(crate) fn leaf_of(test: Test) -> Tree
     ensures { (text : List ℕ) (e : Environment) → tree_verdict text e result ≡ test_meaning e (written text test) }
 {

@@ -18,22 +18,23 @@ use crate::token::{Left, Token, tokenize};
 use crate::tree::Tree;
 use std::alloc::Global;
 
-/// How long a text may be, in bytes.
+/// The longest text, in bytes.
 const MOST_BYTES: usize = 4096;
 
-/// How deep brackets and leading `not`s may be nested.
+/// The deepest nesting of brackets and leading `not`s.
 const MOST_DEPTH: usize = 32;
 
-/// Up to so many tokens are tried as one test first. A test has seven at most, and most chains have more than these.
+/// Texts of up to this many tokens are first tried as a single test. A test has at most seven tokens, and most chains
+/// have more than this many.
 const FEW_TOKENS: usize = 5;
 
-/// The condition that the text writes. A text that is too long is refused first, any other by the first place in it where
-/// a rule is broken. Its time is linear in the text.
+/// Returns the condition that the text contains. A text over the length limit is rejected for its length, any other
+/// at the first place that breaks a rule. Takes time linear in the text.
 pub fn parse(alloc: Global, text: &str) -> Result<Cond, CondFault>
     ensures ok { IfOk result (λ condition. IsParsed text.now condition) }
     ensures err { IfErr result (λ fault. Breaks fault text.now) }
     ensures long { most_bytes < length text.now → result ≡ Err (CondFault.TooLong most_bytes) }
-    // What writes a condition within the bounds is refused for want of memory alone.
+    // A valid condition within the limits is rejected only if an allocation fails.
     ensures only { (condition : Any) → Writes text.now condition → length text.now ≤ most_bytes → any_depth condition ≤ most_depth
         → IfErr result (λ fault. fault ≡ CondFault.Memory) }
 {
@@ -44,7 +45,7 @@ pub fn parse(alloc: Global, text: &str) -> Result<Cond, CondFault>
     }
 }
 
-/// The tree of the text. Its tokens take the place of those that stand there.
+/// Returns the tree of the text. Its tokens replace those in `tokens`.
 pub(crate) fn parse_text(
     alloc: Global,
     tokens: &mut Vec<Token>,
@@ -104,7 +105,8 @@ fn tree_of(alloc: Global, text: &str, tokens: &[Token], left: Left<'_>) -> Resul
     }
 }
 
-/// The test that the tokens are, if they are one. Most conditions are one of few tokens, and need no walk down the rules of the grammar.
+/// Returns the test that the tokens consist of, if they are a single test. Most conditions are a test of few tokens
+/// and need no recursive descent.
 #[inline(always)]
 fn only_test(source: &Source<'_>) -> Option<Test>
     ensures { IfSome result (λ test. ahead source.now 0 ≡ test_then (written (text_of source.now) test) []) }

@@ -1,4 +1,4 @@
-//! From tokens to a test: the first token behind what was read decides how it goes on.
+//! From tokens to a test: the next token decides how the test continues.
 ghost use Rattle.std.specs.Prelude.{◌≡◌};
 ghost use Rattle.cond.specs.Heads as heads;
 ghost use Rattle.cond.specs.Heads.{field_head, name_head, operand_head, asked_head, is_head, equals_head, in_head, within_head, tail_head, test_head};
@@ -14,7 +14,7 @@ use crate::states::State;
 use crate::stop::Stop;
 use text_syntax::Field;
 
-/// The test that the tokens begin with, and what is behind it.
+/// Returns the test that the tokens start with, and the rest.
 #[inline(always)]
 #[tactic(auto, unfolding(crate::specs::Heads::test_head))]
 pub(crate) fn test(source: &Source<'_>, from: usize) -> Result<(Test, usize), Stop>
@@ -41,7 +41,7 @@ fn tail(source: &Source<'_>, subject: Operand, from: usize) -> Result<(Test, usi
     }
 }
 
-// Behind `is`, which asks of a name or a field alone.
+// Continues after `is`, which applies only to a name or a field.
 #[inline(never)]
 fn asked(
     source: &Source<'_>,
@@ -118,7 +118,7 @@ fn equality(
     }
 }
 
-// Behind a text, and `not` where the contrary is asked.
+// Continues after a string, and after `not` if the test is negated.
 #[inline(never)]
 fn membership(
     source: &Source<'_>,
@@ -179,7 +179,7 @@ fn operand(source: &Source<'_>, from: usize) -> Result<(Operand, usize), Stop>
     }
 }
 
-// Behind a name, of which a field may be meant.
+// Continues after a name, to which a field can belong.
 #[inline(always)]
 #[tactic(auto, unfolding(crate::specs::Heads::name_head))]
 fn named(source: &Source<'_>, name: Span, from: usize) -> Result<(Operand, usize), Stop>
@@ -213,7 +213,7 @@ fn field_of(source: &Source<'_>, name: Span, from: usize) -> Result<(Operand, us
     }
 }
 
-// No dot stands behind a whole operand.
+// Rejects a dot after a complete operand.
 #[inline(always)]
 #[tactic(auto, unfolding(crate::specs::Heads::apart))]
 fn apart(source: &Source<'_>, operand: Operand, from: usize) -> Result<(Operand, usize), Stop>

@@ -1,4 +1,4 @@
-//! The tokens of a text, from one of them on.
+//! The tokens of a text, from a given one on.
 ghost use Rattle.std.specs.Prelude.{◌≡◌, option_map, slice_get};
 ghost use Rattle.cond.specs.Heads.{first, behind};
 ghost use Rattle.cond.specs.Seen.{kept, piece, ahead, place_of, text_of};
@@ -7,12 +7,12 @@ use crate::mark::Mark;
 use crate::span::{Span, word_in};
 use crate::token::Token;
 
-/// A text and its tokens. What is left of them is told by the number of the first.
+/// A text and its tokens. The index of the first remaining token identifies the rest.
 #[derive(Clone, Copy, Debug)]
 pub(crate) struct Source<'a> {
     pub(crate) text: &'a [u8],
     pub(crate) tokens: &'a [Token],
-    /// The byte place behind the tokens.
+    /// The byte offset after the tokens.
     pub(crate) end: usize,
 }
 
@@ -32,7 +32,7 @@ impl Source<'_> {
         self.tokens.get(from).copied()
     }
 
-    /// What is behind the first token.
+    /// Returns the index after the first remaining token.
     pub(crate) fn behind(&self, from: usize) -> usize
         ensures { ahead self.now result ≡ behind (ahead self.now from) }
     {
@@ -43,7 +43,7 @@ impl Source<'_> {
         }
     }
 
-    /// The byte place of the first token, or of the end.
+    /// Returns the byte offset of the first remaining token, or of the end.
     pub(crate) fn place(&self, from: usize) -> usize
         ensures { result ≡ place_of self.now (ahead self.now from) }
     {

@@ -1,8 +1,8 @@
-//! What a condition may ask of a registered result.
+//! What a condition can test of a registered result.
 ghost use Rattle.std.specs.Prelude.{◌≡◌};
 ghost use Rattle.cond.specs.Grammar.{state_named};
 
-/// What `is` asks of a registered result. One that succeeded is one that isn't failed, a skipped one among them.
+/// What `is` tests of a registered result. A result that has not failed has succeeded, even a skipped one.
 #[derive(Clone, Copy, Debug, PartialEq, Eq)]
 pub enum State {
     Changed,
@@ -12,7 +12,7 @@ pub enum State {
 }
 
 impl State {
-    /// The state that a condition asks for by this word.
+    /// Returns the state that this word tests for.
     pub(crate) fn named(word: &str) -> Option<State>
         ensures { result ≡ state_named word.now }
     {

@@ -1,12 +1,12 @@
-//! Why a list of tokens is no condition.
+//! Why a list of tokens is not a valid condition.
 use std::alloc::{AllocError, AllocFailed};
 
-/// Why the parser stops, and the byte place where it does.
+/// Why the parser stops, and the byte offset where it does.
 #[derive(Clone, Copy, Debug)]
 pub(crate) enum Stop {
-    /// The token there continues no condition, or the tokens end too early.
+    /// The token here can't continue a condition, or the tokens end too early.
     Unexpected { at: usize },
-    /// The bracket or `not` there has no room.
+    /// The bracket or `not` here exceeds the nesting limit.
     TooDeep { at: usize },
     Memory,
 }

@@ -1,4 +1,4 @@
-//! The texts of faults, which are in no contract; the program writes lines of its own.
+//! The display text of errors, which no contract specifies; the program writes its own lines.
 use cond::CondFault;
 use domains::FleetFault;
 use std::alloc::{AllocError, Global};

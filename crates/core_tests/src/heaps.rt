@@ -1,4 +1,4 @@
-//! Each allocation of a copy refused in turn, by heaps of every size up to one that is large enough.
+//! Fails each allocation of a copy in turn, with heaps of every size up to one that is large enough.
 use crate::region::tree;
 use group_tree::Tree;
 use linked_list_allocator::LocalHeap;
@@ -8,7 +8,7 @@ use std::test::Fail;
 /// Heaps of 0, 8, 16 bytes and so on, the last of them large enough.
 const STEPS: usize = 1024;
 
-/// Whether a copy into the heap has the groups and hosts of the tree; true where memory is refused.
+/// Reports whether a copy into the heap has the groups and hosts of the tree; true if an allocation fails.
 fn copies_whole(heap: &LocalHeap, tree: &Tree<Global>, copied: &mut usize) -> bool {
     match tree.copy_to(heap) {
         Ok(copy) => {

@@ -1,5 +1,5 @@
-//! What no command reaches below the workers: copies of a tree, also on heaps that run out; boards that were refused memory and are asked again, and claims
-//! that are stranded; and the texts of faults that no command prints.
+//! What no command reaches below the workers: copies of a tree, also on heaps that run out. Boards are retried after a failed allocation,
+//! and claims are stranded. The text of errors that no command prints is tested, too.
 #![tactic(auto)]
 
 #[cfg(test)]

@@ -1,4 +1,5 @@
-//! Want of memory changes nothing, and a worker that finds none strands its claim: this test holds whatever one request is refused.
+//! A failed allocation changes nothing, and a worker that runs out of memory strands its claim. This test passes whichever single
+//! allocation fails.
 ghost use Rattle.std.specs.Prelude.{◌≡◌, IfOk, IfSome, true};
 ghost use Rattle.host_track.specs.Endings.{ending_of};
 ghost use Rattle.roll_core.specs.Givings.{HasItsGo};
@@ -27,7 +28,7 @@ const BATCH: [HostId; 2] = [HostId { index: 0 }, HostId { index: 1 }];
 /// It is in a group that has no room.
 const SHUT_OUT: [HostId; 1] = [HostId { index: 2 }];
 
-/// Two hosts that may be down, and one that may not.
+/// Returns a group with two hosts that may be down, and one that may not.
 fn region(alloc: Global) -> Result<Group<Global>, GroupFault> {
     let shut = group(alloc, "shut", Some(0), &["c"])?;
     with(group(alloc, "all", None, &["a", "b"])?, shut)
@@ -85,7 +86,7 @@ fn hold_again<L: Ledger>(
     }
 }
 
-/// Where memory is refused, the board is as before, and claims again.
+/// Claims again if an allocation fails and the board is unchanged.
 fn claim_again<'s, L: Ledger>(
     board: &mut Board<'s, Script, L, NoObserver>,
     alloc: Global,
@@ -101,7 +102,7 @@ fn claim_again<'s, L: Ledger>(
     }
 }
 
-/// Reports it in a tally of its own.
+/// Reports it in its own tally.
 fn report<'s, L: Ledger>(
     board: &mut Board<'s, Script, L, NoObserver>,
     done: Done<'s, Script>,
@@ -138,12 +139,12 @@ fn move_on<L: Ledger>(board: &mut Board<'_, Script, L, NoObserver>) -> Result<()
 #[derive(Clone, Copy, Debug, PartialEq, Eq, Drop)]
 enum Turn {
     Reported,
-    /// Nobody is free.
+    /// No host is free.
     Idle,
     Stranded(HostId),
 }
 
-/// One claim: a worker that finds no memory strands it.
+/// Makes one claim; a worker that runs out of memory strands it.
 fn take<'s, L: Ledger, H: Threads + Wait + Processes<Started = SystemProcess> + Sync>(
     rt: &H,
     alloc: Global,
@@ -172,7 +173,7 @@ fn take<'s, L: Ledger, H: Threads + Wait + Processes<Started = SystemProcess> + 
     Ok(Turn::Reported)
 }
 
-/// The batch to its end, or until a host that was stranded holds it up.
+/// Runs the batch to its end, or until a stranded host blocks it.
 fn work<'s, L: Ledger, H: Threads + Wait + Processes<Started = SystemProcess> + Sync>(
     rt: &H,
     alloc: Global,
@@ -193,7 +194,7 @@ fn work<'s, L: Ledger, H: Threads + Wait + Processes<Started = SystemProcess> + 
     Err(Fail::new("the batch does not end"))
 }
 
-/// A host that was stranded is waited for; where nobody was, the hosts are counted.
+/// Checks that a stranded host is waited for, or, if there is none, that the hosts are counted.
 fn ends_so<L: Ledger>(
     board: &mut Board<'_, Script, L, NoObserver>,
     stranded: Option<HostId>,
@@ -238,7 +239,7 @@ fn run_batch<L: Ledger, H: Threads + Wait + Processes<Started = SystemProcess> +
     ends_so(board, stranded)
 }
 
-/// What is left has one of each a host, and the history this board's log alone.
+/// Checks that the result has one of each per host, and that the history contains only this board's log.
 fn is_left_so<L: Ledger>(board: Board<'_, Script, L, NoObserver>) -> Result<(), Fail> {
     let log = board.log().len();
     let (left, _watch, history) = board.finish();
@@ -251,7 +252,7 @@ fn is_left_so<L: Ledger>(board: Board<'_, Script, L, NoObserver>) -> Result<(), 
     Ok(())
 }
 
-/// Whether there was memory for the board.
+/// Reports whether there was memory for the board.
 fn rolled<L: Ledger, H: Threads + Wait + Processes<Started = SystemProcess> + Sync>(
     rt: &H,
     alloc: Global,

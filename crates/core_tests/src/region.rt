@@ -3,7 +3,7 @@ use group_tree::{Group, GroupFault, Limit, Percentage, Scalar, Tree};
 use std::alloc::Allocator;
 use test_fleets::group;
 
-/// A rack with a host that has variables.
+/// Returns a rack with a host that has variables.
 fn second_rack<A: Allocator + Clone>(alloc: A) -> Result<Group<A>, GroupFault> {
     let half = Percentage::new(50).map(Limit::Percent);
     let mut rack = Group::new(alloc, "r2", half, &[])?;
@@ -22,7 +22,7 @@ fn eu<A: Allocator + Clone>(alloc: A) -> Result<Group<A>, GroupFault> {
     Ok(eu)
 }
 
-/// A region with two racks, and beside it a group without hosts and without a limit.
+/// Returns a region with two racks, and next to it a group without hosts and without a limit.
 pub(crate) fn region<A: Allocator + Clone>(alloc: A) -> Result<Group<A>, GroupFault> {
     let tier = ("tier", Scalar::Text("web"));
     let mut all = Group::new(alloc.clone()?, "all", None, &[tier])?;
@@ -31,7 +31,7 @@ pub(crate) fn region<A: Allocator + Clone>(alloc: A) -> Result<Group<A>, GroupFa
     Ok(all)
 }
 
-/// The tree of `region`, which breaks no rule.
+/// Returns the tree of `region`, which violates no rule.
 pub(crate) fn tree<A: Allocator + Clone>(alloc: A) -> Result<Tree<A>, GroupFault> {
     match Tree::new(region(alloc)?) {
         Ok(tree) => Ok(tree),

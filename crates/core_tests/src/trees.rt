@@ -4,13 +4,13 @@ use group_tree::{Group, Tree};
 use std::alloc::{Allocator, Global};
 use std::test::Fail;
 
-/// A group without hosts and children, whose name ends in a number.
+/// Returns a group without hosts and children, whose name ends in a number.
 fn bare<A: Allocator + Clone>(alloc: A, number: usize) -> Result<Group<A>, Fail> {
     let name = format!(in alloc.clone()?; "g{number}")?;
     Ok(Group::new(alloc, name.as_str(), None, &[])?)
 }
 
-/// A group with this one as its child.
+/// Returns a group with this one as its child.
 fn around<A: Allocator + Clone>(
     alloc: A,
     inner: Group<A>,
@@ -21,7 +21,7 @@ fn around<A: Allocator + Clone>(
     Ok(outer)
 }
 
-/// A chain of groups, each in the one before it, with this many in all.
+/// Returns a chain of nested groups, `depth` in all.
 fn chain<A: Allocator + Clone>(alloc: A, depth: usize) -> Result<Group<A>, Fail> {
     let mut group = bare(alloc.clone()?, 0)?;
     for level in 1..depth {
@@ -30,7 +30,7 @@ fn chain<A: Allocator + Clone>(alloc: A, depth: usize) -> Result<Group<A>, Fail>
     Ok(group)
 }
 
-/// One group with this many children, and this many hosts.
+/// Returns one group with this many children and hosts.
 fn wide<A: Allocator + Clone>(alloc: A, children: usize, hosts: usize) -> Result<Group<A>, Fail> {
     let mut all = Group::new(alloc.clone()?, "all", None, &[])?;
     for number in 0..children {
@@ -42,7 +42,7 @@ fn wide<A: Allocator + Clone>(alloc: A, children: usize, hosts: usize) -> Result
     Ok(all)
 }
 
-/// Whether the tree has this many groups, and the last of them this name and depth and no host.
+/// Reports whether the tree has this many groups, and the last of them this name, this depth and no host.
 fn ends_so<A: Allocator>(tree: &Tree<A>, groups: usize, (name, depth): (&str, usize)) -> bool {
     let last = match tree.row(groups.wrapping_sub(1)) {
         Some((group, at)) => group.name() == name && at == depth && group.hosts().is_empty(),
@@ -51,7 +51,7 @@ fn ends_so<A: Allocator>(tree: &Tree<A>, groups: usize, (name, depth): (&str, us
     last && tree.groups() == groups
 }
 
-/// Whether a copy in an arena, and a copy of that one, end so.
+/// Reports whether a copy in an arena, and a copy of that one, end this way.
 fn copies_end_so(
     alloc: Global,
     tree: &Tree<Global>,

@@ -1,4 +1,4 @@
--- Lists of names: beginnings, and names that stand once.
+-- Lists of names: prefixes, and names that appear once.
 use Rattle.std.proofs.Common.{◌≡◌, ℕ, zero, suc, ◌<◌, true, false, ◌||◌, ◌&&◌, not, List, [], ◌∷◌, ◌++◌, length, get_or, take, sym, ap, ◌∙◌, refl, subst}
 use Rattle.std.proofs.Common.{arith, inl, inr, ◌⊎◌}
 use Rattle.std.proofs.lemmas.Bool.{false≢true, not-true, and_parts, or_parts, or_cases, or_left, or_right}
@@ -42,7 +42,7 @@ among_begins z (x ∷ xs) (y ∷ ys) e f = by_case (among_begins z xs ys parts.1
         or_left (same_name z y) (is_among z ys) (subst (λ (n : Name). same_name z n ≡ true) (same_name-true x y parts.0) s)
     by_case later (inr s) = or_right (same_name z y) (is_among z ys) (later s)
 
--- a path that ends in a name begins what is cut off past that name
+-- a path that ends in a name is a prefix of what is cut off past that name
 pub begins_cut : (name : Name) (above xs : List Name) (d : ℕ) → begins (above ++ name ∷ []) xs ≡ true → is_among name above ≡ false
     → is_among name (take d xs) ≡ true → begins (above ++ name ∷ []) (take d xs) ≡ true
 begins_cut name above xs zero e n f = absurd (false≢true f)
@@ -57,7 +57,7 @@ begins_cut name (y ∷ above) (x ∷ xs) (suc d) e n f =
     let among : is_among name (take d xs) ≡ true = sym (ap (λ b. b || is_among name (take d xs)) other) ∙ f in
     ap (λ b. b && begins (above ++ name ∷ []) (take d xs)) parts.0 ∙ begins_cut name above xs d parts.1 apart.1 among
 
--- names at two places differ
+-- names at two indexes differ
 pub distinct_at : (names : List Name) (i j : ℕ) (d : Name) → are_distinct names ≡ true → i < j → j < length names → same_name (get_or names i d) (get_or names j d) ≡ false
 distinct_at [] i j d e l m = absurd (omega arith)
 distinct_at (n ∷ names) zero zero d e l m = absurd (omega arith)

@@ -1,4 +1,4 @@
--- What the numbers and the lists of a fleet say of its inventory.
+-- The numbers and the lists of a fleet match its inventory.
 use Rattle.std.proofs.Common.{◌≡◌, ℕ, ◌≤◌, ◌<◌, Bool, true, nat_eq, Option, Some, None, All, List, [], map, option_map, length, get_or, sym, ap, ◌∙◌, refl}
 use Rattle.std.proofs.Common.{subst, arith, inl, inr, ◌⊎◌, IsPermutation}
 use Rattle.std.specs.List.{range_with_len}

@@ -1,4 +1,4 @@
--- An inventory by the numbers of its groups and hosts: the words of the lemmas.
+-- An inventory by the numbers of its groups and hosts: definitions for the lemmas.
 use Rattle.std.proofs.Common.{ℕ, ◌<◌, Bool, Option, None, All, List, [], length, get_or, map, option_map}
 use Rattle.std.specs.List.{range_with_len}
 use Rattle.group_tree.specs.Names.{Name}
@@ -33,19 +33,19 @@ path_at places group = path_to (depths_of places) group
 abbrev pub paths_of : Inventory → List (List ℕ)
 paths_of inventory = paths_from [] 0 (depths_of inventory.places)
 
--- whether a group stands on the path of another
+-- whether a group is on the path of another
 abbrev pub is_above : List Place → ℕ → ℕ → Bool
 is_above places = on_path (depths_of places)
 
--- the last group on whose path a group stands
+-- the last group whose path contains a group
 abbrev pub last_under : List Place → ℕ → ℕ
 last_under places group = last_where (is_above places group) (length places)
 
--- the groups of a walk
+-- the groups in preorder
 abbrev pub groups_in_walk : List (Subtree × ℕ) → List Subtree
 groups_in_walk walk = map (λ (walked : Subtree × ℕ). walked.0) walk
 
--- a row has its host and its group's number; in numbers, those of its host's name and of its group
+-- a row has its host and the number of its group; in numbers, the row has the numbers of both
 abbrev pub row_host : Host × ℕ → Host
 row_host row = row.0
 
@@ -74,23 +74,24 @@ IsBelow count row = row.1 < count
 abbrev pub RowsBelow : ℕ → List (Host × ℕ) → Type 0
 RowsBelow count rows = All (IsBelow count) rows
 
--- whether a group holds a host
+-- whether a group contains a host
 abbrev pub holds_at : Inventory → List Name → ℕ → ℕ → Bool
 holds_at inventory hosts group host = holds inventory (group_name inventory.places group) (host_at hosts host)
 
--- the hosts that a group holds
+-- the hosts that a group contains
 abbrev pub held_hosts : Inventory → List Name → Name → List ℕ
 held_hosts inventory hosts group = numbers_where (λ host. holds inventory group (host_at hosts host)) (length hosts)
 
--- whether a group is limited and holds a host
+-- whether a group is limited and contains a host
 abbrev pub limits_at : Inventory → Name → ℕ → Bool
 limits_at inventory host group = is_limited_holder inventory host (place_at inventory.places group)
 
--- the limited groups that hold a host
+-- the limited groups that contain a host
 abbrev pub limited_groups : Inventory → Name → List ℕ
 limited_groups inventory host = numbers_where (limits_at inventory host) (length inventory.places)
 
--- the lists of a fleet, as they are made of paths and rows: a host's groups among so many, a group's hosts, and what it allows
+-- the lists of a fleet, as built from paths and rows: a host's groups among `count`, a group's hosts, and the allowed
+-- number down
 abbrev pub groups_held : List (List ℕ) → List (ℕ × ℕ) → ℕ → ℕ → List ℕ
 groups_held paths rows count host = numbers_where (λ group. is_member paths rows group host) count
 
@@ -109,7 +110,7 @@ allowed_for count = option_map (λ (limit : Limit). allowed limit count)
 abbrev pub count_of : List (Option Limit) → List (List ℕ) → ℕ → Option ℕ
 count_of limits members group = allowed_for (length (list_at members group)) (get_or limits group None)
 
--- the last of so many groups on whose path a group stands
+-- the last of `count` groups whose path contains a group
 abbrev pub end_lists : List (List ℕ) → ℕ → List ℕ
 end_lists paths count =
     map (λ group. last_where (λ number. has_number group (list_at paths number)) count) (range_with_len 0 count)

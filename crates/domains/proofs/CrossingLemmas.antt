@@ -1,4 +1,4 @@
--- Limited groups that cross, by numbers and by names.
+-- Limited groups that cross, by number and by name.
 use Rattle.std.proofs.Common.{◌≡◌, ℕ, ◌<◌, Bool, true, false, ◌||◌, ◌&&◌, not, Option, List, [], length, map, is_some, sym, ap, ◌∙◌}
 use Rattle.std.proofs.Common.{arith, inl, inr, ◌⊎◌}
 use Rattle.std.specs.List.{list_any}
@@ -19,7 +19,7 @@ use Rattle.domains.proofs.ByNumber.{group_name, limits_at}
 use Rattle.domains.proofs.BeginLemmas.{begins_same}
 use Rattle.domains.proofs.KnownLists.{AreListsOf}
 
--- a name that stands among names stands at a place
+-- a name in a list has an index
 found_at : (z : Name) (xs : List Name) → is_among z xs ≡ true → (i : ℕ) × (i < length xs) × (host_at xs i ≡ z)
 found_at z xs e =
     let found = Any-from_list_any (same_name z) xs e in
@@ -28,7 +28,7 @@ found_at z xs e =
 abbrev host_of : Row → Name
 host_of row = row.host
 
--- a host that a group holds has a row
+-- a host that a group contains has a row
 held_has_row : (group host : Name) (rows : List Row) → list_any (is_row_of group host) rows ≡ true → is_among host (map host_of rows) ≡ true
 held_has_row group host rows e =
     let found = Any-from_list_any (is_row_of group host) rows e in
@@ -41,7 +41,7 @@ module _ {inventory : Inventory} {hosts : List Name} {limits : List (Option ℕ)
   apart_back : (p q : Place) → are_apart p q ≡ are_apart q p
   apart_back p q = ap not (or_comm (begins (path_of p) (path_of q)) (begins (path_of q) (path_of p)))
 
-  -- the groups of a crossing are limited and hold the host, and are apart
+  -- the groups of a crossing are limited and contain the host, and are apart
   crossing_parts : (host : Name) (i j : ℕ) → is_crossing inventory host i j ≡ true
       → (limits_at inventory host i ≡ true) × (limits_at inventory host j ≡ true)
       × (are_apart (place_at inventory.places i) (place_at inventory.places j) ≡ true)
@@ -55,7 +55,7 @@ module _ {inventory : Inventory} {hosts : List Name} {limits : List (Option ℕ)
       → (is_some (place_at inventory.places i).limit ≡ true) × (holds inventory (group_name inventory.places i) host ≡ true)
   holder_parts host i e = and_parts (is_some (place_at inventory.places i).limit) (holds inventory (group_name inventory.places i) host) e
 
-  -- two groups of a host cross at its chain
+  -- two groups of a host cross in its chain
   crossing_ends : (h i j : ℕ) → h < length hosts → i < j → j < length inventory.places → is_crossing inventory (host_at hosts h) i j ≡ true
       → (has_number i (list_at chains h) ≡ true) × (has_number j (list_at chains h) ≡ true) × (ends_before subtree_ends i j ≡ true)
   crossing_ends h i j l m n e =

@@ -1,4 +1,4 @@
--- What is found, by names, is all that keeps an inventory from being a fleet.
+-- The findings, by name, are all that keeps an inventory from being a fleet.
 use Rattle.std.proofs.Common.{◌≡◌, ◌≢◌, ◌<◌, ◌≤◌, nat_lt, false, IfSome, Option, Some, List, [], ◌∷◌, take, get_or, length, map, if◌then◌else◌, refl, sym, ap, ◌∙◌, subst, arith}
 use Rattle.std.proofs.lemmas.Bool.{false_from_ne_true, lt-ltb, ltb-true}
 use Rattle.text_syntax.specs.Breaches.{first_of}
@@ -30,7 +30,7 @@ few_hosts inventory n found numbered l is =
     ∙ sym
     (ap (λ b. if b then TooManyHosts ∷ [] else map (named (hosts_of inventory) (group_names inventory.places)) (all_findings inventory)) few)
 
--- one fault is told, and it is the first
+-- one error is reported, and it is the first
 pub one_told : (all : List Breach) (faults : List FleetFault) → all ≢ [] → map breach_of faults ≡ map Some (take 1 all)
     → (0 < length faults) × ((fault : FleetFault) → fault ≡ get_or faults 0 fault → IfSome (breach_of fault) (λ breach. first_of all ≡ Some breach))
 one_told [] faults some told = absurd (some refl)

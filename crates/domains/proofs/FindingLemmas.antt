@@ -1,4 +1,4 @@
--- What is found by numbers is what the inventory says by names.
+-- The findings by number match the inventory by name.
 use Rattle.std.proofs.Common.{◌≡◌, ℕ, zero, suc, ◌+◌, ◌*◌, ◌^◌, ◌<◌, ◌≤◌, Bool, true, false, ◌||◌, ◌&&◌, not, nat_eq, nat_lt, cond, Option, None, Some, List, [], ◌∷◌, ◌++◌, take, get_or, length, map, refl, sym, ap, ◌∙◌, arith, inl, inr, ◌⊎◌}
 use Rattle.std.specs.List.{flat_map, range_with_len}
 use Rattle.std.proofs.Math.Nat.{mul-le-mul_left, zero-add}
@@ -28,7 +28,7 @@ use Rattle.domains.proofs.ByNumber.{group_name}
 use Rattle.domains.proofs.KnownLists.{AreListsOf}
 use Rattle.domains.proofs.StartLemmas.{down_at}
 
--- a list of lists with one number more
+-- a list of lists with one more number
 pub range_step : {X : Type 0} (f : ℕ → List X) (n : ℕ) → flat_map f (range_with_len 0 n) ++ f n ≡ flat_map f (range_with_len 0 (n + 1))
 range_step f n = flat_map_more f [] (range_with_len 0 n) n ∙ ap (flat_map f) (sym (range_more n))
 
@@ -53,7 +53,7 @@ in_range count n l =
     list_any_at (nat_eq n) (range_with_len 0 count) n 0 (omega (arith, l, length-range_with_len 0 count))
     (eq-eqb n (get_or (range_with_len 0 count) n 0) (sym (get_or-range_with_len 0 count n 0 l ∙ zero-add n)))
 
--- the same of each number of a list is the same of all
+-- if two functions agree on each number of a list, so do their results on the list
 same_among : {X : Type 0} (f g : ℕ → List X) (xs : List ℕ) → ((n : ℕ) → has_number n xs ≡ true → f n ≡ g n) → flat_map f xs ≡ flat_map g xs
 same_among f g [] same = refl
 same_among f g (x ∷ xs) same =
@@ -72,7 +72,7 @@ none_at f (x ∷ xs) none n e = by_case (or_cases (nat_eq n x) (has_number n xs)
     by_case (inl same) among = ap f (eqb-true n x same) ∙ no_first (f x) (flat_map f xs) none
     by_case (inr later) among = among later
 
--- a chain is nested where none of its groups cross
+-- a chain is nested if none of its groups cross
 nested_none : (ends chain : List ℕ) (host : ℕ) → IsNestedChain ends chain → crossings_among (ends_before ends) host chain ≡ []
 nested_none ends chain host nested =
     same_among (crossings_with (ends_before ends) host chain) (λ f. []) chain
@@ -108,7 +108,7 @@ no_findings : (crossings : List Crossing) (overs : List Finding) → findings cr
 no_findings [] overs none = (refl, none)
 no_findings (crossing ∷ crossings) overs none = absurd (cc)
 
--- where some crossings are found, they are all; where none is, the groups over their limits are
+-- if some crossings are found, they are all of them; otherwise, the groups over their limits are
 pub found_crossings : (found : List Finding) (crossings : List Crossing) (overs : List Finding) → 0 < length found → found ≡ map Nesting (each_pair crossings)
     → found ≡ findings crossings overs
 found_crossings found [] overs some is = absurd (omega (arith, some, ap length is))
@@ -120,7 +120,7 @@ found_overs none [] overs found long are is = is
 found_overs [] (crossing ∷ crossings) overs found long are is = absurd (cc)
 found_overs (finding ∷ none) (crossing ∷ crossings) overs found long are is = absurd (omega (arith, long))
 
--- a square of no more than the most groups
+-- the square of a number up to the maximum number of groups
 pub small_square : (n : ℕ) → n ≤ 1024 → n * n < 2 ^ 63
 small_square n l =
     let square : n * n ≤ n * 1024 = mul-le-mul_left n l in

@@ -1,4 +1,4 @@
--- Lists by numbers say what the inventory says by names.
+-- Lists by number match the inventory by name.
 use Rattle.std.proofs.Common.{◌≡◌, ℕ, ◌≤◌, ◌<◌, Bool, true, ◌||◌, ◌&&◌, nat_eq, nat_lt, Option, Some, None, All, List, [], ◌∷◌, length, get_or}
 use Rattle.std.proofs.Common.{map, filter, is_some, sym, ap, ◌∙◌, refl, subst, arith, inl, inr, ◌⊎◌}
 use Rattle.std.specs.List.{range_with_len}
@@ -33,14 +33,14 @@ use Rattle.domains.proofs.WhereLemmas.{filtered_names, numbers_where-same, risin
 module _ (inventory : Inventory) (hosts groups : List Name) (limits : List (Option Limit)) (depths : List ℕ) (rows : List (ℕ × ℕ))
     (off : List Bool) (numbered : IsNumbering inventory hosts groups limits depths rows off)
     (distinct : are_distinct (group_names inventory.places) ≡ true) (preorder : is_preorder inventory.places ≡ true) where
-  -- the groups that hold a host, by the paths and the rows
+  -- the groups that contain a host, by the paths and the rows
   abbrev member : ℕ → ℕ → Bool
   member host group = is_member (paths_of inventory) rows group host
 
   abbrev holders : ℕ → List ℕ
   holders host = numbers_where (member host) (length inventory.places)
 
-  -- the lists that are made of paths and rows
+  -- the lists that are built from paths and rows
   module _ (counts : List (Option ℕ)) (held chains members : List (List ℕ)) (subtree_ends : List ℕ)
       (held_are : held ≡ map holders (range_with_len 0 (length hosts))) (counts_are : counts ≡ allowed_counts limits members)
       (chains_are : chains ≡ map (filter (is_limited counts)) held)
@@ -156,7 +156,7 @@ module _ (inventory : Inventory) (hosts groups : List Name) (limits : List (Opti
         own : Place → List ℕ
         own place = held_hosts inventory hosts place.name
 
-    -- who stands in a chain
+    -- the members of a chain
     holder_at : (g h : ℕ) → g < length inventory.places → h < length hosts → has_number g (list_at chains h) ≡ limits_at inventory (host_at hosts h) g
     holder_at g h l m =
         ap (has_number g) (chain_at h m)
@@ -195,7 +195,7 @@ module _ (inventory : Inventory) (hosts groups : List Name) (limits : List (Opti
         sym (ap (has_number g) (chain_at h l) ∙ has_number-numbers_where (limits_at inventory (host_at hosts h)) (length inventory.places) g) ∙ e in
         ltb-true g (length inventory.places) (and_parts (nat_lt g (length inventory.places)) (limits_at inventory (host_at hosts h) g) split).0
 
-    -- a host that a group holds is held by each group above it
+    -- a host that a group contains is contained in each group above it
     held_above : (g t h : ℕ) → g < length inventory.places → t < length inventory.places → h < length hosts → is_above inventory.places g t ≡ true
         → holds_at inventory hosts t h ≡ true → holds_at inventory hosts g h ≡ true
     held_above g t h l m w e f =

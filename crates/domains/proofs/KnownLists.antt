@@ -1,4 +1,4 @@
--- What a fleet's lists of numbers say of its inventory by names.
+-- A fleet's lists of numbers match its inventory by name.
 use Rattle.std.proofs.Common.{◌≡◌, ℕ, ◌≤◌, ◌<◌, Bool, true, Option, None, All, List, length, get_or, map, is_some}
 use Rattle.std.specs.List.Sorted.{IsStrictlySortedBy}
 use Rattle.group_tree.specs.Names.{Name}
@@ -13,7 +13,7 @@ use Rattle.domains.specs.Numbered.{host_at}
 use Rattle.domains.specs.Members.{members_of, chains_of}
 use Rattle.domains.proofs.ByNumber.{group_name, is_above, last_under, holds_at, held_hosts, limits_at, limited_groups}
 
--- what the lists of numbers say by names, on which the laws of crossings, of the start and of the deal order rest
+-- the meaning of the lists of numbers by name, for the laws of crossings, of the start and of the deal order
 pub record AreListsOf (inventory : Inventory) (hosts : List Name) (limits : List (Option ℕ)) (off : List Bool)
     (chains members : List (List ℕ)) (subtree_ends : List ℕ) : Type 0 where
   pub all_hosts : hosts ≡ hosts_of inventory

@@ -1,4 +1,4 @@
--- Names with fewer of those that stand twice.
+-- Names with fewer duplicates.
 use Rattle.std.proofs.Common.{◌≡◌, ℕ, ◌<◌, Bool, true, false, ◌||◌, List, [], ◌∷◌, ◌++◌, length, get_or, map, Bor, sym, ap, ◌∙◌, refl}
 use Rattle.std.proofs.Math.Bool.{or-true, or-false}
 use Rattle.std.proofs.lemmas.List.{map-append}
@@ -7,11 +7,11 @@ use Rattle.group_tree.specs.Names.{Name, same_name, is_among}
 use Rattle.fleet_index.specs.SortedNames.{sorted_names}
 use Rattle.fleet_index.proofs.SortedNamesLemmas.{same_rising, is_rising-sorted_names, is_among-sorted_names}
 
--- names as they are lent
+-- borrowed names
 abbrev pub lent_names : List (Bor Name) → List Name
 lent_names names = map (λ (name : Bor Name). name.now) names
 
--- one that stands there already adds nothing
+-- a name that is already there adds nothing
 pub listed_already : (names : List Name) (place : ℕ) (name other : Name) → place < length names → get_or names place [] ≡ name
     → is_among other names ≡ (is_among other names || same_name other name)
 listed_already names place name other within is = by_case (same_name other name) refl

@@ -1,4 +1,4 @@
--- Lists of lists of numbers, as the lists of a fleet are made.
+-- Lists of lists of numbers, as the lists of a fleet are built.
 use Rattle.std.proofs.Common.{◌≡◌, ℕ, ◌≤◌, ◌<◌, Bool, true, ◌&&◌, nat_lt, ◌∷◌, Option, All, List, [], map, filter, length, get_or, sym, ap, ◌∙◌, subst, arith}
 use Rattle.std.specs.List.{list_all, range_with_len}
 use Rattle.std.proofs.lemmas.Bool.{and_parts, lt-ltb, ltb-true}
@@ -13,7 +13,7 @@ use Rattle.domains.specs.FleetLists.{AreFleetLists, allowed_counts, parent_on}
 use Rattle.domains.proofs.ByNumber.{held_lists, member_lists, end_lists}
 use Rattle.domains.proofs.WhereLemmas.{rising-numbers_where}
 
--- for each of so many numbers the numbers below n that pass a test with it
+-- for each of `count` numbers, the numbers below n that pass a test with it
 abbrev list_where : (ℕ → ℕ → Bool) → ℕ → ℕ → List ℕ
 list_where p n k = numbers_where (p k) n
 
@@ -38,7 +38,7 @@ short_list p n count lists is k d l =
     let short = count_by-le-length (p k) (range_with_len 0 n) in
     omega (arith, ap length (where_at p n count lists is k d l), length-filter (p k) (range_with_len 0 n), short, length-range_with_len 0 n)
 
--- no path goes past the last group
+-- no path contains a number above the last group
 pub paths_within : (depths : List ℕ) (paths : List (List ℕ)) → paths ≡ paths_from [] 0 depths → list_all (are_below (length paths)) paths ≡ true
 paths_within depths paths is =
     let below = paths_below (length depths) 0 [] depths tt (omega arith) in

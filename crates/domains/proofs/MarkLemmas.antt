@@ -1,4 +1,4 @@
--- Flags of the hosts that names name.
+-- Flags of the hosts that names match.
 use Rattle.std.proofs.Common.{◌≡◌, ℕ, ◌≤◌, ◌<◌, Bool, true, false, ◌||◌, not, nat_eq, None, All, List, [], length, get_or, position}
 use Rattle.std.proofs.Common.{slice_set, sym, ap, ◌∙◌, subst, arith, inl, inr, ◌⊎◌}
 use Rattle.std.proofs.lemmas.Bool.{cases_eq, cases_lt, eq-eqb, ne_eqb, false≢true, or_left, or_right}
@@ -19,7 +19,7 @@ rising_below bound xs up k d l =
     let at : get_or xs k 0 < bound = below_at bound xs k (are_below-rising bound xs up) l in
     omega (arith, at, get_or_default xs k d 0 l)
 
--- a number with a flag is within the flags
+-- a flagged number is within the flags
 flagged_within : (flags : List Bool) (k : ℕ) → get_or flags k false ≡ true → k < length flags
 flagged_within flags k e = by_case (cases_lt k (length flags))
   where
@@ -30,7 +30,7 @@ flagged_within flags k e = by_case (cases_lt k (length flags))
 abbrev is_flagged : List Bool → ℕ → Bool
 is_flagged flags number = get_or flags number false
 
--- a group gets its flag as all its hosts get theirs
+-- a group is flagged together with all its hosts
 pub group_flagged : (fleet : FleetView) (groups hosts new : List Bool) (g : ℕ) → AreFlags fleet groups hosts → g < length groups
     → IsRising (length fleet.hosts) (list_at fleet.members g) → length new ≡ length hosts
     → ((h : ℕ) → h < length hosts → get_or new h false ≡ (get_or hosts h false || has_number h (list_at fleet.members g)))
@@ -53,12 +53,12 @@ group_flagged fleet groups hosts new g are inside rises len flagged =
         let had : get_or hosts h false ≡ true = are.members k h old f in
         flagged h (flagged_within hosts h had) ∙ or_left (get_or hosts h false) (has_number h (list_at fleet.members g)) had
 
--- a name that stands at a place is there
+-- a name at an index is in the list
 pub stands : (name : Name) (names : List Name) (i : ℕ) → i < length names → host_at names i ≡ name → is_among name names ≡ true
 stands name names i l is =
     list_any_at (same_name name) names i [] l (ap (same_name name) is ∙ same_name-itself name)
 
--- the name of a group, or of a host, names something
+-- the name of a group, or of a host, matches something
 pub group_known : (fleet : FleetView) (name : Name) (i : ℕ) → i < length fleet.groups → host_at fleet.groups i ≡ name → not (names_nothing fleet name) ≡ true
 group_known fleet name i l is =
     ap (λ b. not (not b)) (or_left (is_among name fleet.groups) (is_among name fleet.hosts) (stands name fleet.groups i l is))
@@ -67,7 +67,7 @@ pub host_known : (fleet : FleetView) (name : Name) (i : ℕ) → i < length flee
 host_known fleet name i l is =
     ap (λ b. not (not b)) (or_right (is_among name fleet.groups) (is_among name fleet.hosts) (stands name fleet.hosts i l is))
 
--- where no group has the name, the host that has it is the one that is flagged
+-- if no group has the name, the host with the name is the one that is flagged
 pub host_flagged : (fleet : FleetView) (flags : List Bool) (name : Name) (h k : ℕ) → length flags ≡ length fleet.hosts
     → position (same_name name) fleet.groups ≡ None → h < length fleet.hosts
     → ((other : ℕ) → other < length fleet.hosts → same_name name (host_at fleet.hosts other) ≡ nat_eq h other) → k < length fleet.hosts
@@ -85,7 +85,7 @@ host_flagged fleet flags name h k len none inside only within = by_case (cases_e
     by_case (inr q) =
         get_or-set_other flags h k true false (λ p. q (sym p)) ∙ sym (ap (λ b. get_or flags k false || b) (means ∙ ne_eqb h k q) ∙ or-false (get_or flags k false))
 
--- all flags are those of the names, where none was set before
+-- all flags are those of the names, if none was set before
 pub flagged_are : (fleet : FleetView) (flags : List Bool) (test : ℕ → Bool) (numbers : List ℕ) (old : ℕ → Bool)
     → numbers ≡ numbers_where (is_flagged flags) (length flags) → length flags ≡ length fleet.hosts → ((h : ℕ) → old h ≡ false)
     → ((h : ℕ) → h < length fleet.hosts → get_or flags h false ≡ (old h || test h)) → numbers ≡ numbers_where test (length fleet.hosts)

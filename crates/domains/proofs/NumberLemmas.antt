@@ -1,4 +1,4 @@
--- What the numbers of hosts and groups say of an inventory.
+-- The numbers of hosts and groups match an inventory.
 use Rattle.std.proofs.Common.{◌≡◌, ℕ, suc, ◌+◌, ◌<◌, Bool, false, ◌||◌, ◌&&◌, cond, nat_eq, Option, None, List, [], ◌∷◌, ◌++◌, length, map}
 use Rattle.std.proofs.Common.{sym, ap, ◌∙◌, refl, subst, arith, inl, inr, ◌⊎◌}
 use Rattle.std.specs.List.{list_any, flat_map}
@@ -32,7 +32,7 @@ map-same f g [] e = refl
 map-same {Y = Y} f g (x ∷ xs) e =
     ap (λ (y : Y). y ∷ map f xs) (e x) ∙ ap (λ (l : List Y). g x ∷ l) (map-same f g xs e)
 
--- hosts at two places differ
+-- hosts at two indexes differ
 pub same_host : (hosts : List Name) (i j : ℕ) → IsStrictlySortedBy name_cmp hosts → i < length hosts → j < length hosts
     → same_name (host_at hosts i) (host_at hosts j) ≡ nat_eq i j
 same_host hosts i j up l m = by_case (cases_order i j)
@@ -100,7 +100,7 @@ rows_below number (group ∷ groups) =
     own k d l =
         All-map (IsBelow (number + suc (length groups))) (listed_by number) group.hosts (λ j e m. omega arith) k d l
 
--- the last row that says whether a host is off, by names and by numbers
+-- the last row that specifies whether a host is off, by name and by number
 pub last_down-numbers : (hosts : List Name) (places : List Place) (host : ℕ) (numbers : List (ℕ × ℕ)) (rows : List (Host × ℕ))
     → IsStrictlySortedBy name_cmp hosts → host < length hosts → HostsWithin hosts numbers
     → map (number_name hosts) numbers ≡ map row_name rows
@@ -123,19 +123,19 @@ last_down-numbers hosts places host (number ∷ numbers) (row ∷ rows) up l wit
     ap (λ (o : Option Bool). option_or o (cond (same_name name row.0.name) own None)) later
     ∙ ap (λ b. option_or (last_down_of host numbers (map row_host rows)) (cond b own None)) same
 
--- paths by names and by numbers say the same
+-- paths by name and by number agree
 abbrev PathsAgree : Inventory → Type 0
 PathsAgree inventory =
     (g k : ℕ) → g < length inventory.places → k < length inventory.places
     → is_among (group_name inventory.places g) (names_to inventory.places k) ≡ is_above inventory.places g k
 
--- membership by names and by numbers
+-- membership by name and by number
 module _ (inventory : Inventory) (hosts : List Name) (numbers : List (ℕ × ℕ)) (among : PathsAgree inventory)
     (up : IsStrictlySortedBy name_cmp hosts) where
   abbrev is_on : ℕ → ℕ → Bool
   is_on g k = is_among (group_name inventory.places g) (names_to inventory.places k)
 
-  -- the row is the host's and its path goes over the group, by names
+  -- the row names the host and its path contains the group, by name
   abbrev is_row_of : ℕ → ℕ → ℕ × ℕ → Bool
   is_row_of g h row = same_name (host_at hosts h) (host_at hosts row.0) && is_on g row.1
 

@@ -1,4 +1,4 @@
--- What a numbering says: the order of the hosts, the limits, and the members of groups.
+-- What a numbering determines: the order of the hosts, the limits, and the members of groups.
 use Rattle.std.proofs.Common.{◌≡◌, ℕ, ◌≤◌, ◌<◌, Bool, true, Option, None, List, length, get_or}
 use Rattle.std.proofs.Common.{map, sym, ap, ◌∙◌, subst, inl, inr, ◌⊎◌}
 use Rattle.std.specs.List.Sorted.{IsStrictlySortedBy}

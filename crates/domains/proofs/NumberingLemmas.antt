@@ -1,4 +1,4 @@
--- The numbers that a walk of an inventory is given are a numbering of it.
+-- The numbers given to an inventory in preorder are a numbering of it.
 use Rattle.std.proofs.Common.{◌≡◌, ℕ, ◌+◌, ◌<◌, Bool, false, Option, List, [], length, get_or, map}
 use Rattle.std.proofs.Common.{unwrap_or, sym, ap, ◌∙◌, refl, subst, arith}
 use Rattle.std.specs.List.Sorted.{IsStrictlySortedBy}
@@ -19,7 +19,7 @@ use Rattle.domains.specs.Numbered.{host_at, host_and_path, named_row, IsNumberin
 use Rattle.domains.proofs.ByNumber.{names_to, groups_in_walk, row_host, row_name, number_name, numbered_row, HostsWithin, GroupsWithin, IsBelow, RowsBelow}
 use Rattle.domains.proofs.NumberLemmas.{map-same, groups_of, rows_numbered, rows_below, last_down-numbers}
 
--- a walk tells of each place what it tells of its group
+-- the value for each place is that for its group
 pub over_walk : {Y : Type 0} (f : Subtree × ℕ → Y) (h : Place → Y) → ((s : PlacedGroup) → f (with_depth 0 s) ≡ h (place_of s))
     → (inventory : Inventory) (walk : List (Subtree × ℕ)) → IsWalkOf inventory 0 walk → map f walk ≡ map h inventory.places
 over_walk f h agree inventory walk w =
@@ -29,7 +29,7 @@ over_walk f h agree inventory walk w =
     ∙ sym (map-map h place_of w.placed_groups)
     ∙ sym (ap (map h) w.places)
 
--- the names of the groups that were walked are those of the places
+-- the names of the groups in preorder are those of the places
 pub walk_names : {S : Type 0} (group : S → Subtree) (depth : S → ℕ) (inventory : Inventory) (walk : List (Subtree × ℕ)) (placed_groups : List S)
     → IsWalkOf inventory 0 walk → map {B = Subtree × ℕ} (λ s. (group s, depth s)) placed_groups ≡ walk
     → map (λ s. (group s).name) placed_groups ≡ group_names inventory.places
@@ -39,7 +39,7 @@ walk_names group depth inventory walk placed_groups w walked =
     ∙ ap (map name) walked
     ∙ over_walk name (λ (p : Place). p.name) (λ s. refl) inventory walk w
 
--- the rows of a walk, by the numbers of their groups
+-- the rows in preorder, by the numbers of their groups
 module _ (inventory : Inventory) (walk : List (Subtree × ℕ)) (w : IsWalkOf inventory 0 walk) where
   pub walk_rows : map (numbered_row inventory.places) (rows_from 0 (groups_in_walk walk)) ≡ inventory.rows
   walk_rows =
@@ -62,7 +62,7 @@ module _ (inventory : Inventory) (walk : List (Subtree × ℕ)) (w : IsWalkOf in
       All-weaker (IsBelow (0 + length (groups_in_walk walk))) (IsBelow (length inventory.places))
       (λ row l. omega (arith, l, walk_length)) (rows_from 0 (groups_in_walk walk)) (rows_below 0 (groups_in_walk walk))
 
--- everything that numbering a walk tells
+-- everything that numbering in preorder determines
 module _ (inventory : Inventory) (walk : List (Subtree × ℕ)) (rows : List (Host × ℕ)) (hosts : List Name) (numbers : List (ℕ × ℕ))
     (w : IsWalkOf inventory 0 walk) (rows_are : rows ≡ rows_from 0 (groups_in_walk walk))
     (hosts_are : hosts ≡ sorted_names (map (λ (row : Host × ℕ). row.0.name) rows))
@@ -139,7 +139,7 @@ module _ (inventory : Inventory) (walk : List (Subtree × ℕ)) (rows : List (Ho
         all_off = off_is;
       }
 
--- the same of the lists that the code makes
+-- likewise for the lists that the code builds
 module _ {S R : Type 0} (group : S → Subtree) (depth : S → ℕ) (host : R → Host) (number : R → ℕ) (inventory : Inventory)
     (walk : List (Subtree × ℕ)) (placed_groups : List S) (listed : List R) (hosts groups : List Name) (limits : List (Option Limit))
     (depths : List ℕ) (numbers : List (ℕ × ℕ)) (off : List Bool)

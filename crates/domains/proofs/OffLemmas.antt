@@ -1,4 +1,4 @@
--- The last row that says whether a host is off, row by row.
+-- The last row that specifies whether a host is off, row by row.
 use Rattle.std.proofs.Common.{◌≡◌, ℕ, zero, suc, ◌+◌, ◌<◌, Bool, cond, nat_eq, Option, Some, None, List, [], ◌∷◌, length, get_or, set, take, sym, ap, ◌∙◌}
 use Rattle.std.proofs.Common.{refl, arith, add-one, inl, inr, ◌⊎◌}
 use Rattle.std.specs.Option.{option_or}
@@ -8,14 +8,14 @@ use Rattle.group_tree.specs.Variables.{value_of}
 use Rattle.group_tree.specs.Subtrees.{Host}
 use Rattle.domains.specs.Hosts.{truth_of, down, last_down_of}
 
--- what a row says of its own host, and of the host of a number
+-- what a row specifies for its own host, and for the host with a number
 abbrev said : Host → Option Bool
 said own = truth_of (value_of down own.variables)
 
 abbrev said_of : ℕ → ℕ × ℕ → Host → Option Bool
 said_of host number own = cond (nat_eq host number.0) (said own) None
 
--- the host of the row at a place
+-- the host of the row at an index
 abbrev host_of_row : List (ℕ × ℕ) → ℕ → ℕ × ℕ → ℕ
 host_of_row numbers i number = (get_or numbers i number).0
 
@@ -40,13 +40,13 @@ last_down_of-more host (n ∷ numbers) (h ∷ hosts) (suc i) number own l m =
     ap (λ (o : Option Bool). option_or o (said_of host n h)) rest
     ∙ or_assoc newest (last_down_of host (take i numbers) (take i hosts)) (said_of host n h)
 
--- what is last_downs of the hosts once one more row is read
+-- the value of `last_downs` for the hosts after one more row
 module _ (numbers : List (ℕ × ℕ)) (hosts : List Host) (i : ℕ) (number : ℕ × ℕ) (own : Host) (last_downs new : List (Option Bool))
     (host : ℕ) (here : Option Bool) (l : i < length numbers) (m : i < length hosts)
     (before : get_or last_downs host None ≡ last_down_of host (take i numbers) (take i hosts)) (some : here ≡ said (get_or hosts i own))
     (within : host_of_row numbers i number < length last_downs)
     (is : new ≡ set last_downs (host_of_row numbers i number) (option_or here (get_or last_downs (host_of_row numbers i number) None))) where
-  -- the row's host, and what is noted of it
+  -- the row's host, and what is recorded of it
   abbrev at : ℕ
   at = host_of_row numbers i number
 

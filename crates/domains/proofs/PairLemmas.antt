@@ -1,4 +1,4 @@
--- Crossings that are seen one after another: each pair of groups is found once, and has a mark.
+-- Crossings in sequence: each pair of groups is found once, and is marked.
 use Rattle.std.proofs.Common.{◌≡◌, ℕ, ◌+◌, ◌*◌, ◌<◌, Bool, true, false, ◌||◌, ◌&&◌, not, nat_eq, cond, List, [], ◌∷◌, ◌++◌, get_or, map, filter, refl, sym, ap, ◌∙◌, subst, append-nil, inl, inr, ◌⊎◌, ◌≢◌}
 use Rattle.std.proofs.Math.Bool.{or-false}
 use Rattle.std.proofs.lemmas.Bool.{and_from, and_parts, eq-eqb, eqb-true, false_from_ne_true}
@@ -14,7 +14,7 @@ use Rattle.domains.specs.declared.finding.Crossing.{Crossing}
 use Rattle.domains.specs.declared.finding.Finding.{Finding}
 use Rattle.domains.specs.declared.finding.Finding.TheVariants.{Nesting}
 
--- two pairs of numbers below a count have one place where they are one pair
+-- two pairs of numbers below a count have the same index exactly if they are the same pair
 place_test : (count a b c d : ℕ) → b < count → d < count → nat_eq (a * count + b) (c * count + d) ≡ (nat_eq a c && nat_eq b d)
 place_test count a b c d l m = by_case (eqb_tells (a * count + b) (c * count + d))
   where
@@ -31,7 +31,7 @@ place_test count a b c d l m = by_case (eqb_tells (a * count + b) (c * count + d
         let parts = and_parts (nat_eq a c) (nat_eq b d) both in
         other.1 (ap (λ n. n * count + b) (eqb-true a c parts.0) ∙ ap (λ n. c * count + n) (eqb-true b d parts.1))))
 
--- the last crossing is left out with those of the first one's pair
+-- the last crossing is removed with those of the first one's pair
 left_out : (x : Crossing) (p : Crossing → Bool) (same among : Bool) → p x ≡ not same → filter p (unless among x) ≡ unless (same || among) x
 left_out x p true true e = refl
 left_out x p false true e = refl
@@ -56,7 +56,7 @@ pairs_more f s xs x =
     let test : Crossing → Bool = λ crossing. nat_eq f crossing.first && nat_eq s crossing.second in
     list_any-append test xs (x ∷ []) ∙ ap (λ b. has_pair f s xs || b) (or-false (test x))
 
--- one crossing more, whose pair is found unless it has a mark
+-- one more crossing, whose pair is found unless it is marked
 pub seen_more : (n : ℕ) (cross : ℕ → ℕ → Bool) (seen : List Crossing) (x : Crossing) (found more : List Finding) (marks set : List Bool) (known : Bool)
     → AreSeen n seen found marks → cross x.first x.second ≡ true → x.first < n → x.second < n → known ≡ get_or marks (x.first * n + x.second) false
     → more ≡ found ++ unless known (Nesting x)

@@ -16,7 +16,7 @@ use Rattle.domains.specs.Fleets.{IsParentOf}
 use Rattle.domains.proofs.ByNumber.{group_name, names_to, names_above, depths_of, path_at}
 use Rattle.domains.proofs.PlaceLemmas.{path_names, begins_on, never_above}
 
--- numbers that ascend rise from place to place
+-- ascending numbers rise from index to index
 pub ascends_at : (low high : ℕ) (xs : List ℕ) (i j : ℕ) → Ascends low high xs → i < j → j < length xs → get_or xs i 0 < get_or xs j 0
 ascends_at low high [] i j up l m = absurd (omega arith)
 ascends_at low high (x ∷ xs) i zero up l m = absurd (omega arith)
@@ -66,7 +66,7 @@ path_on depths (suc k) i l m = by_case (path_on depths k i (omega arith)) (cases
         ap (λ (xs : List ℕ). get_or xs i 0) next ∙ get_or-append_right kept (suc k ∷ []) (length kept) i 0 refl q ∙ ap (λ (n : ℕ). get_or (suc k ∷ []) n 0) zeroth in
         ap (path_to depths) own ∙ sym (take_all (i + 1) (path_to depths (suc k)) (omega (arith, q, long)))
 
--- where the parent stands on a path
+-- the position of the parent on a path
 abbrev HasParentAt : List ℕ → Type 0
 HasParentAt path =
     ((parent_on path ≡ None) × (length path ≤ 1)) ⊎ ((i : ℕ) × (i + 2 ≡ length path) × (parent_on path ≡ Some (get_or path i 0)))
@@ -119,7 +119,7 @@ module _ (places : List Place) (distinct : are_distinct (group_names places) ≡
           ∙ take_all (i + 1) (names_above places k) (omega (arith, at_end)) in
           subst (IsParentOf places k) (sym q.2) (omega (arith, below, before), above)
 
-  -- of two groups that are not apart the one with the lower number is above
+  -- of two groups that are not apart, the one with the lower number is above
   pub above_of : (g k : ℕ) → g < k → k < length places → are_apart (place_at places g) (place_at places k) ≡ false → begins (names_to places g) (names_to places k) ≡ true
   above_of g k l m apart =
       one_of (begins (names_to places g) (names_to places k)) (begins (names_to places k) (names_to places g)) apart

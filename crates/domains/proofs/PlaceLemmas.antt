@@ -1,4 +1,4 @@
--- Paths of names and paths of numbers say the same.
+-- Paths of names and paths of numbers agree.
 use Rattle.std.proofs.Common.{◌≡◌, ℕ, zero, suc, ◌≤◌, ◌<◌, Bool, true, false, ◌||◌, not, nat_eq, nat_lt, List, [], ◌∷◌, ◌++◌, length, get_or, take, map}
 use Rattle.std.proofs.Common.{sym, ap, ◌∙◌, refl, subst, arith, inl, inr, ◌⊎◌}
 use Rattle.std.proofs.lemmas.Bool.{cases_eq, cases_order, eq-eqb, ne_eqb, false_from_ne_true, false≢true, and_parts, or_left, or_right}
@@ -35,7 +35,7 @@ module _ (places : List Place) (distinct : are_distinct (group_names places) ≡
   named : (k : ℕ) → k < length places → get_or (group_names places) k [] ≡ group_name places k
   named k l = get_or-map (λ (p : Place). p.name) places k nowhere [] l
 
-  -- the names above a group are the first ones on the path before it
+  -- the names above a group are a prefix of the path before it
   above_taken : (k : ℕ) → suc k < length places → take (length (names_above places (suc k))) (names_to places k) ≡ names_above places (suc k)
   above_taken k l = begins_take (names_above places (suc k)) (names_to places k) (goes_next [] places k preorder l)
 
@@ -86,7 +86,7 @@ module _ (places : List Place) (distinct : are_distinct (group_names places) ≡
       ∙ above_taken k l in
       ap (map name) next ∙ map-append name (take d path) (suc k ∷ []) ∙ ap (λ (xs : List Name). xs ++ name (suc k) ∷ []) above
 
-  -- among the names of rising numbers below the end
+  -- likewise among the names of ascending numbers below the end
   among_numbers : (g low high : ℕ) (xs : List ℕ) → g < length places → high ≤ length places → Ascends low high xs
       → is_among (group_name places g) (map (group_name places) xs) ≡ has_number g xs
   among_numbers g low high [] l m up = refl
@@ -114,7 +114,7 @@ module _ (places : List Place) (distinct : are_distinct (group_names places) ≡
       ∙ false_from_ne_true (has_number (suc k) (take d (path_at places k)))
       (λ e. absurd (omega (arith, (has_number-within (suc k) 0 (suc k) (take d (path_at places k)) up e).1)))
 
-  -- a group on the path of another has a path that begins the other's
+  -- if a group is on the path of another, its path is a prefix of the other's
   path_begins : (g k : ℕ) → g < length places → k < length places → is_above places g k ≡ true → begins (names_to places g) (names_to places k) ≡ true
   path_begins g zero l m e =
       let below : g ≤ 0 = on_within (depths_of places) g 0 (omega (arith, long)) e in
@@ -169,7 +169,7 @@ module _ (places : List Place) (distinct : are_distinct (group_names places) ≡
           let among : is_among (group_name places g) (names_to places k) ≡ true = among_begins (group_name places g) (names_to places g) (names_to places k) e own in
           sym among ∙ among_path g k l m ∙ f
 
-  -- a later group is apart from an earlier one exactly where it comes after the last group below it
+  -- a later group is apart from an earlier one exactly if it comes after the last group below it
   pub apart_past : (g k : ℕ) → g < k → k < length places
       → are_apart (place_at places g) (place_at places k) ≡ nat_lt (last_where (is_above places g) (length (depths_of places))) k
   apart_past g k l m =

@@ -1,4 +1,4 @@
--- What the readers of a fleet lend and find.
+-- What the queries of a fleet borrow and find.
 use Rattle.std.proofs.Common.{◌≡◌, ℕ, ◌≤◌, ◌<◌, false, nat_eq, List, [], length, get_or, Result, Ok, Err, is_ok, IsPermutation, Option, Some, None, IfSome}
 use Rattle.std.proofs.Common.{Vec, Global, All, map, sym, ap, ◌∙◌, refl, subst, arith, inl, inr, ◌⊎◌}
 use Rattle.std.specs.List.{range_with_len}
@@ -39,7 +39,7 @@ is_found bound xs x (Err i) up h =
     side k l (inl q) below above = ne_eqb x (get_or xs k 0) (λ e. omega (arith, e, below k q))
     side k l (inr q) below above = ne_eqb x (get_or xs k 0) (λ e. omega (arith, e, above k q l))
 
--- the same of a search by the numbers of hosts
+-- likewise for a search by the numbers of hosts
 pub found_number : (bound : ℕ) (hosts : List HostId) (x : ℕ) (r : Result ℕ ℕ) → IsRising bound (host_numbers hosts)
     → IsBinarySearchResult (λ (y : HostId). nat_cmp y.index x) hosts r → IsSearchInRange r (length hosts) → is_ok r ≡ has_number x (host_numbers hosts)
 found_number bound hosts x r up h within = is_found bound (host_numbers hosts) x r up (by_number r h within)
@@ -64,7 +64,7 @@ pub at_most : (limit : Option ℕ) (count : ℕ) → ((l : ℕ) → limit ≡ So
 at_most None count below = tt
 at_most (Some l) count below = below l refl
 
--- what rises stays below its bound
+-- ascending numbers stay below their bound
 pub lent_within : {X : Type 0} (number : X → ℕ) (bound : ℕ) (lent : List X) → IsRising bound (map number lent) → All (λ (x : X). number x < bound) lent
 lent_within number bound lent up k d l =
     let below : get_or (map number lent) k (number d) < bound = rising_below bound (map number lent) up k (number d) (simp length-map l) in
@@ -77,7 +77,7 @@ dealt_within number bound order lent is once k d l =
     let below : get_or order k 0 < bound = in_range bound order once k long in
     omega (arith, below, get_or-map number lent k d 0 l, ap (λ (o : List ℕ). get_or o k 0) is)
 
--- where an order has a host
+-- the position of a host in an order
 pub stands : (n : ℕ) (order : List ℕ) (h : ℕ) → IsPermutation (range_with_len 0 n) order → h < n → (place : ℕ) × (place < length order) × (get_or order place 0 ≡ h)
 stands n order h once l =
     let long : length (range_with_len 0 n) ≡ n = length-range_with_len 0 n in
@@ -91,7 +91,7 @@ placed n order places h once at l =
     let place : get_or places h 0 ≡ found.0 = ap (λ (k : ℕ). get_or places k 0) (sym found.2) ∙ at.at found.0 found.1 in
     (omega (arith, place, found.1), ap (λ (k : ℕ). get_or order k 0) place ∙ found.2)
 
--- one of the lists of a fleet as it is lent
+-- one of the lists of a fleet as borrowed
 lent_at : {X : Type 0} (number : X → ℕ) (lists : List (Vec X Global)) (shown_lists : List (List ℕ)) (bound k : ℕ) (own : Vec X Global) (lent : List X)
     → lists_by number lists ≡ shown_lists → k < length shown_lists → own ≡ get_or lists k own → lent ≡ own.items → All (IsRising bound) shown_lists
     → (map number lent ≡ list_at shown_lists k) × IsRising bound (map number lent)
@@ -100,7 +100,7 @@ lent_at {X} number lists shown_lists bound k own lent is within own_is lent_is r
     let here = lent_list number lists k own lent inside own_is lent_is ∙ ap (λ (l : List (List ℕ)). list_at l k) is in
     (here, subst (IsRising bound) (sym here) (rises k [] within))
 
--- the members of a group as they are lent
+-- the members of a group as borrowed
 pub members_lent : (fleet : Inside) (now : FleetView) (g : ℕ) (own : Vec HostId Global) (lent : List HostId) → shown fleet ≡ now
     → IsSound (shown fleet) → g < length now.groups → own ≡ get_or fleet.members.items g own → lent ≡ own.items
     → (host_numbers lent ≡ list_at now.members g) × IsRising (length now.hosts) (host_numbers lent)
@@ -109,7 +109,7 @@ members_lent fleet now g own lent is kept l own_is lent_is =
     lent_at (λ (host : HostId). host.index) fleet.members.items now.members (length now.hosts) g own lent
     (ap (λ (f : FleetView). f.members) is) (omega (arith, l, sound.all_members)) own_is lent_is sound.members_rise
 
--- the chain of a host as it is lent
+-- the chain of a host as borrowed
 pub chain_lent : (fleet : Inside) (now : FleetView) (h : ℕ) (own : Vec GroupId Global) (lent : List GroupId) → shown fleet ≡ now
     → IsSound (shown fleet) → h < length now.hosts → own ≡ get_or fleet.chains.items h own → lent ≡ own.items
     → (group_numbers lent ≡ list_at now.chains h) × IsRising (length now.groups) (group_numbers lent)
@@ -118,7 +118,7 @@ chain_lent fleet now h own lent is kept l own_is lent_is =
     lent_at (λ (group : GroupId). group.index) fleet.chains.items now.chains (length now.groups) h own lent
     (ap (λ (f : FleetView). f.chains) is) (omega (arith, l, sound.all_chains)) own_is lent_is sound.chains_rise
 
--- each host has a place in the deal order
+-- each host has a position in the deal order
 pub all_places : (fleet : Inside) (now : FleetView) → shown fleet ≡ now → IsConsistent fleet → length fleet.places.items ≡ length now.hosts
 all_places fleet now is kept =
     kept.places.len

@@ -1,4 +1,4 @@
--- Chains and members of a fleet, by numbers alone.
+-- Chains and members of a fleet, only by number.
 use Rattle.std.proofs.Common.{◌≡◌, ℕ, ◌≤◌, ◌<◌, Bool, true, false, ◌&&◌, not, nat_lt, Option, Some, None, List, [], length, get_or, sym, ap, ◌∙◌, arith, inl, inr, ◌⊎◌}
 use Rattle.std.proofs.lemmas.Bool.{cases_lt, false_from_ne_true, false≢true, and_parts, lt-ltb, le-ltb, ltb-false}
 use Rattle.std.proofs.lemmas.List.{get_or_past, length-map}
@@ -71,12 +71,12 @@ module _ {inventory : Inventory} {hosts : List Name} {limits : List (Option ℕ)
       by_case (inl l) (inr m) = past (inr m)
       by_case (inr l) m = past (inl l)
 
-  -- who stands in a chain that exists
+  -- the members of an existing chain
   pub in_chain : (g h : ℕ) → has_number g (list_at chains h) ≡ true → (g < length inventory.places) × (h < length hosts)
   in_chain g h e =
       member_within g h (and_parts (is_limited limits g) (has_number h (list_at members g)) (sym (chain_exact h g) ∙ e)).1
 
-  -- a group above another holds the hosts that the other one holds
+  -- a group above another contains the hosts of the other
   pub members_above : (top group : ℕ) → is_above inventory.places top group ≡ true → top < length inventory.places → AreAmong (list_at members group) (list_at members top)
   members_above top group on l host e =
       let inside = member_within group host e in

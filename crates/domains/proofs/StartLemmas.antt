@@ -1,4 +1,4 @@
--- How many hosts of a group are off at the start, by numbers and by names.
+-- How many hosts of a group are off at the start, by number and by name.
 use Rattle.std.proofs.Common.{◌≡◌, ℕ, ◌+◌, ◌≤◌, ◌<◌, Bool, false, ◌&&◌, Option, None, List, [], length, get_or, filter, sym, ap, ◌∙◌, arith, inl, inr, ◌⊎◌}
 use Rattle.std.specs.List.{range_with_len}
 use Rattle.std.proofs.lemmas.Bool.{cases_lt}
@@ -22,7 +22,7 @@ module _ {inventory : Inventory} {hosts : List Name} {limits : List (Option ℕ)
   abbrev is_down_member : Name → Name → Bool
   is_down_member group host = holds inventory group host && is_off inventory host
 
-  -- how many hosts of a group are off, by numbers and by names
+  -- how many hosts of a group are off, by number and by name
   pub down_at : (g : ℕ) → g < length inventory.places → off_count off (list_at members g) ≡ hosts_off inventory (group_name inventory.places g)
   down_at g l =
       let is_down : ℕ → Bool = λ host. get_or off host false in
@@ -39,7 +39,7 @@ module _ {inventory : Inventory} {hosts : List Name} {limits : List (Option ℕ)
           ap (λ (o : List Bool). get_or o k false) known.all_off ∙ get_or-map (is_off inventory) hosts k [] false m in
           ap (λ (n : ℕ). holds_at inventory hosts g n && get_or off n false) e ∙ ap (λ b. holds_at inventory hosts g k && b) off_at
 
-  -- a group whose limit its hosts that are off do not exceed is not over it, by names
+  -- a group whose off hosts do not exceed its limit is not over it, by name
   not_over : (number : ℕ) → number < length inventory.places
       → exceeds (get_or limits number None) (off_count off (list_at members number)) ≡ false → starts_over inventory number ≡ false
   not_over number l none =

@@ -15,14 +15,14 @@ use Rattle.domains.specs.FleetViews.{IsInSubtree}
 abbrev path : List ℕ → ℕ → List ℕ
 path depths k = list_at (paths_from [] 0 depths) k
 
--- what the path of a group goes on from
+-- the prefix that the path of the next group continues
 abbrev kept : List ℕ → ℕ → List ℕ
 kept depths k = take (get_or depths (suc k) 0) (path depths k)
 
 abbrev last_of : List ℕ → ℕ
 last_of xs = get_or xs (length xs - 1) 0
 
--- the parent on a path is the last of what stands before the group itself
+-- the parent on a path is the last before the group itself
 parent_push : (xs : List ℕ) (b : ℕ) → 0 < length xs → parent_on (xs ++ b ∷ []) ≡ Some (last_of xs)
 parent_push [] b l = absurd (omega arith)
 parent_push (x ∷ []) b l = refl
@@ -52,7 +52,7 @@ parent_after depths g (suc k) l m e =
     let up : Ascends 0 (suc k) before = Ascends-take (get_or depths (suc k) 0) 0 (suc k) (path depths k) (path_ascends depths k (omega arith)) in
     (last_of before, ap parent_on (path_next depths k l) ∙ parent_push before (suc k) (filled before g there), last_greatest 0 (suc k) before g 0 up there)
 
--- the parent comes before the group, and stands on its path
+-- the parent comes before the group, and is on its path
 pub parent_above : (depths : List ℕ) (k p : ℕ) → k < length depths → parent_on (path depths k) ≡ Some p → (p < k) × (on_path depths p k ≡ true)
 parent_above depths zero p l e =
     let none : parent_on (path depths 0) ≡ None = ap parent_on (first_path depths l) in
@@ -83,7 +83,7 @@ module _ (depths : List ℕ) (parents : List (Option ℕ)) (parents_are : parent
   parent_at k l =
       ap (λ (o : List (Option ℕ)). get_or o k None) parents_are ∙ get_or-map parent_on (paths_from [] 0 depths) k [] None (omega (arith, l, length-paths_from [] 0 depths))
 
-  -- who has a parent is a group
+  -- only a group has a parent
   pub parent_within : (k p : ℕ) → get_or parents k None ≡ Some p → k < length depths
   parent_within k p e = by_case (cases_lt k (length depths))
     where

@@ -1,4 +1,4 @@
--- The hosts of a limited group stand together in the deal order.
+-- The hosts of a limited group are adjacent in the deal order.
 use Rattle.std.proofs.Common.{◌≡◌, ℕ, suc, ◌+◌, ◌-◌, ◌≤◌, ◌<◌, Bool, true, false, ◌&&◌, not, nat_eq, nat_lt, Option, List, [], ◌∷◌, length, get_or, is_some}
 use Rattle.std.proofs.Common.{IsPermutation, sym, ap, ◌∙◌, refl, subst, arith, inl, inr, ◌⊎◌}
 use Rattle.std.specs.List.{range_with_len}

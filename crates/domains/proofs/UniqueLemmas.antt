@@ -36,7 +36,7 @@ module _ (n : ℕ) (chains : List (List ℕ)) where
   long : (order : List ℕ) → IsPermutation (range_with_len 0 n) order → length order ≡ n
   long order once = length_permutation (range_with_len 0 n) order once ∙ length-range_with_len 0 n
 
-  -- where two orders agree up to a place, what the first has there comes no later in the second
+  -- if two orders agree up to a position, the host of the first there comes no later in the second
   up_to : (order other : List ℕ) → IsPermutation (range_with_len 0 n) order → IsPermutation (range_with_len 0 n) other → IsDealt chains other
       → (place : ℕ) → place < n → ((i : ℕ) → i < place → get_or order i 0 ≡ get_or other i 0) → IsUpTo chains (get_or other place 0) (get_or order place 0)
   up_to order other once again dealt place l same = by_case (cases_order place found.0)

@@ -1,4 +1,4 @@
--- The preorder walk of a group is the group and the walks of its children.
+-- The preorder of a group is the group, then the preorders of its children.
 use Rattle.std.proofs.Common.{◌≡◌, ℕ, zero, suc, ◌+◌, ◌≤◌, ◌<◌, List, [], ◌∷◌, ◌++◌, length, get_or, take, drop, map, sym, ap, ◌∙◌, refl, subst, arith, length-append, append_assoc}
 use Rattle.std.specs.List.{flat_map}
 use Rattle.std.proofs.lemmas.List.{map-append, map-id, length-map, take_more, drop_all, drop_more, append-nil}
@@ -117,7 +117,7 @@ smaller_child group children parts i child within is =
     let fewer : Subtree → Type 0 = λ c. length c.below.places < length (side_by_side children).places in
     rw (← ap (λ (below : Inventory). length below.places) parts) (subst fewer (sym is) (smaller_at children i child within))
 
--- what was pushed first comes first
+-- the first one pushed comes first
 pub after_push : {X Y : Type 0} (f : X → Y) (old pushed : List X) (x : X) (walk all : List Y) → pushed ≡ old ++ x ∷ [] → all ≡ map f pushed ++ walk
     → all ≡ map f old ++ f x ∷ walk
 after_push {Y = Y} f old pushed x walk all more is =
@@ -140,7 +140,7 @@ rows_more {X = X} group placed_groups i placed old new all within is grown befor
     ∙ ap (λ (l : List (Host × ℕ)). old ++ l) (sym rest)
     ∙ before
 
--- all rows are listed where no group is left
+-- all rows are listed if no group remains
 pub all_rows : {X : Type 0} (group : X → Subtree) (placed_groups : List X) (i : ℕ) (rows : List (Host × ℕ)) → length placed_groups ≤ i
     → rows ++ rows_from i (map group (drop i placed_groups)) ≡ rows_from 0 (map group placed_groups) → rows ≡ rows_from 0 (map group placed_groups)
 all_rows {X} group placed_groups i rows past is =

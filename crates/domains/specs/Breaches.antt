@@ -1,4 +1,4 @@
--- Why an inventory is no fleet, by names.
+-- Why an inventory is not a valid fleet, by names.
 use Rattle.std.specs.Prelude.{ℕ, Option, Some, None, List}
 use Rattle.std.specs.String.{string_bytes}
 use Rattle.group_tree.specs.Names.{Name}
@@ -9,20 +9,20 @@ use Rattle.domains.specs.declared.finding.Finding.{Finding}
 use Rattle.domains.specs.declared.finding.Finding.TheVariants.{Hosts, Nesting, Start}
 
 pub data Breach : Type 0 where
-  -- the host is in two limited groups of which neither contains the other
+  -- the host is in two limited groups, and neither contains the other
   NotNested : Name → Name → Name → Breach
-  -- so many hosts of the group are down at the start, more than its limit
+  -- more hosts of the group are down at the start than its limit allows
   StartOver : Name → ℕ → ℕ → Breach
   TooManyHosts : Breach
 
--- want of memory breaks no rule
+-- running out of memory breaks no rule
 abbrev pub breach_of : FleetFault → Option Breach
 breach_of (fault.NotNested host first second) = Some (NotNested (string_bytes host) (string_bytes first) (string_bytes second))
 breach_of (fault.StartOver group down limit) = Some (StartOver (string_bytes group) down limit)
 breach_of fault.TooManyHosts = Some TooManyHosts
 breach_of fault.Memory = None
 
--- what is found of hosts and groups by their numbers, by these names
+-- a finding by numbers, with the names of its host and groups
 abbrev pub named : List Name → List Name → Finding → Breach
 named hosts groups Hosts = TooManyHosts
 named hosts groups (Nesting crossing) = NotNested (host_at hosts crossing.host) (host_at groups crossing.first) (host_at groups crossing.second)

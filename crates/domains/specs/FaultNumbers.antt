@@ -1,4 +1,4 @@
--- The numbers of the faults; want of memory has none.
+-- The error numbers; running out of memory has none.
 use Rattle.std.specs.Prelude.{ℕ, Option, Some, None}
 use Rattle.domains.specs.declared.fault.FleetFault.{FleetFault}
 use Rattle.domains.specs.declared.fault.FleetFault.TheVariants as fleet

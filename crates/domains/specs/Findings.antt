@@ -12,7 +12,7 @@ use Rattle.domains.specs.declared.finding.Crossing.{Crossing}
 use Rattle.domains.specs.declared.finding.Finding.{Finding}
 use Rattle.domains.specs.declared.finding.Finding.TheVariants.{Nesting, Start}
 
--- the crossing, where its groups cross by this test
+-- the crossing, if its groups cross by this test
 abbrev pub crossing_if : (ℕ → ℕ → Bool) → Crossing → List Crossing
 crossing_if cross crossing = unless (not (cross crossing.first crossing.second)) crossing
 
@@ -24,14 +24,14 @@ crossings_with cross host groups first =
 abbrev pub crossings_among : (ℕ → ℕ → Bool) → ℕ → List ℕ → List Crossing
 crossings_among cross host groups = flat_map (crossings_with cross host groups) groups
 
--- the same of the first hosts, and of all, each with its groups
+-- likewise for the first hosts, and for all, each with its groups
 abbrev pub crossings_until : (ℕ → ℕ → Bool) → List (List ℕ) → ℕ → List Crossing
 crossings_until cross chains hosts = flat_map (λ host. crossings_among cross host (list_at chains host)) (range_with_len 0 hosts)
 
 abbrev pub crossings_in : (ℕ → ℕ → Bool) → List (List ℕ) → List Crossing
 crossings_in cross chains = crossings_until cross chains (length chains)
 
--- both are of one pair of groups
+-- both have the same pair of groups
 abbrev pub is_same_pair : Crossing → Crossing → Bool
 is_same_pair crossing other = nat_eq crossing.first other.first && nat_eq crossing.second other.second
 
@@ -40,25 +40,25 @@ abbrev pub each_pair : List Crossing → List Crossing
 each_pair [] = []
 each_pair (crossing ∷ later) = crossing ∷ filter (λ other. not (is_same_pair other crossing)) (each_pair later)
 
--- the group, where more of its hosts are down than its limit
+-- the group, if more of its hosts are down than its limit allows
 abbrev pub over_by : ℕ → Option ℕ → ℕ → List Finding
 over_by group None down = []
 over_by group (Some limit) down = cond (nat_lt limit down) (Start group down limit ∷ []) []
 
--- all such groups among the first, each with its limit and with how many of its hosts are down
+-- all such groups among the first ones, each with its limit and the number of its hosts that are down
 abbrev pub overs_until : (ℕ → Option ℕ) → (ℕ → ℕ) → ℕ → List Finding
 overs_until limits downs groups = flat_map (λ group. over_by group (limits group) (downs group)) (range_with_len 0 groups)
 
--- the pairs that cross; where there is none, the groups over their limits
+-- the pairs that cross, or, if there is none, the groups over their limits
 abbrev pub findings : List Crossing → List Finding → List Finding
 findings [] overs = overs
 findings (crossing ∷ crossings) overs = map Nesting (each_pair (crossing ∷ crossings))
 
--- the first group comes before the second, and neither path begins the other
+-- the first group comes before the second, and neither path is a prefix of the other
 abbrev pub are_crossing : List Place → ℕ → ℕ → Bool
 are_crossing places first second = nat_lt first second && are_apart (place_at places first) (place_at places second)
 
--- 301: of the limited groups of each host those that cross
+-- 301: the limited groups of each host that cross
 abbrev pub all_crossings : Inventory → List Crossing
 all_crossings inventory = crossings_in (are_crossing inventory.places) (chains_of inventory (hosts_of inventory))
 

@@ -1,4 +1,4 @@
--- A fleet as its contracts show it: hosts by their numbers in the order of their names, groups by theirs in preorder.
+-- A fleet as its contracts show it: hosts by number in name order, groups by number in preorder.
 use Rattle.std.specs.Prelude.{◌≡◌, ℕ, ◌<◌, ◌≤◌, Bool, true, false, ◌&&◌, Option, None, Some, List, length, slice_index_or, count_by, All, IsPermutation}
 use Rattle.std.specs.List.{range_with_len}
 use Rattle.std.specs.List.Sorted.{IsStrictlySortedBy}
@@ -8,7 +8,8 @@ use Rattle.fleet_index.specs.NumberLists.{list_at, has_number, IsRising}
 use Rattle.fleet_index.specs.Chains.{is_limited}
 use Rattle.fleet_index.specs.DealOrder.{IsDealt}
 
--- a limit is how many of the group's hosts may be down at once; a chain is a host's limited groups; an order is that of dealing
+-- a limit is the number of the group's hosts that can be down at once; a chain is a host's limited groups; the order
+-- is that of dealing
 pub record FleetView : Type 0 where
   pub hosts : List Name
   pub groups : List Name
@@ -27,16 +28,16 @@ off_count off hosts = count_by (λ host. slice_index_or off host false) hosts
 abbrev pub down_at_start : FleetView → ℕ → ℕ
 down_at_start fleet group = off_count fleet.off (list_at fleet.members group)
 
--- each number of the first list stands in the second
+-- each number of the first list is in the second
 abbrev pub AreAmong : List ℕ → List ℕ → Type 0
 AreAmong numbers others = (number : ℕ) → has_number number numbers ≡ true → has_number number others ≡ true
 
--- the group is the top one or stands below it: from the top one on up to the group, each has its parent there
+-- the group is the top one or below it: from the top one to the group, each has its parent in that range
 pub record IsInSubtree (parents : List (Option ℕ)) (top group : ℕ) : Type 0 where
   pub after : top ≤ group
   pub parent_there : (between : ℕ) → top < between → between ≤ group → (parent : ℕ) × (slice_index_or parents between None ≡ Some parent) × (top ≤ parent)
 
--- between two hosts of a limited group in the deal order stand hosts of that group alone
+-- in the deal order, only hosts of a limited group come between two hosts of that group
 abbrev pub AreTogether : FleetView → Type 0
 AreTogether fleet =
     (group place later last : ℕ) → is_limited fleet.limits group ≡ true → place ≤ later → later ≤ last → last < length fleet.order
@@ -44,7 +45,7 @@ AreTogether fleet =
     → has_number (slice_index_or fleet.order last 0) (list_at fleet.members group) ≡ true
     → has_number (slice_index_or fleet.order later 0) (list_at fleet.members group) ≡ true
 
--- what holds of every fleet, whatever inventory it came from
+-- properties of every fleet, whatever its inventory
 pub record IsSound (fleet : FleetView) : Type 0 where
   pub few_hosts : length fleet.hosts ≤ 4096
   pub few_groups : length fleet.groups ≤ 1024
@@ -55,19 +56,19 @@ pub record IsSound (fleet : FleetView) : Type 0 where
   pub all_members : length fleet.members ≡ length fleet.groups
   pub all_chains : length fleet.chains ≡ length fleet.hosts
   pub all_off : length fleet.off ≡ length fleet.hosts
-  -- groups are in preorder: those below a group come right after it, before any other
+  -- groups are in preorder: those below a group follow it directly, before any other
   pub parents_before : (group parent : ℕ) → slice_index_or fleet.parents group None ≡ Some parent → parent < group
   pub preorder : (group parent : ℕ) → slice_index_or fleet.parents group None ≡ Some parent → IsInSubtree fleet.parents parent group
   pub members_rise : All (IsRising (length fleet.hosts)) fleet.members
   pub members_above : (top group : ℕ) → IsInSubtree fleet.parents top group → AreAmong (list_at fleet.members group) (list_at fleet.members top)
-  -- a host's chain is the limited groups that it is a member of, each below the one before it
+  -- a host's chain is the limited groups that contain it, each below the previous one
   pub chains_rise : All (IsRising (length fleet.groups)) fleet.chains
   pub chain_exact : (host group : ℕ) → has_number group (list_at fleet.chains host) ≡ (is_limited fleet.limits group && has_number host (list_at fleet.members group))
   pub chain_nested : (host outer inner : ℕ) → outer < inner → has_number outer (list_at fleet.chains host) ≡ true
       → has_number inner (list_at fleet.chains host) ≡ true → IsInSubtree fleet.parents outer inner
   pub inner_members : (host outer inner : ℕ) → outer < inner → has_number outer (list_at fleet.chains host) ≡ true
       → has_number inner (list_at fleet.chains host) ≡ true → AreAmong (list_at fleet.members inner) (list_at fleet.members outer)
-  -- no group has more hosts off than its limit
+  -- no group has more hosts off than its limit allows
   pub within_limits : (group limit : ℕ) → slice_index_or fleet.limits group None ≡ Some limit → down_at_start fleet group ≤ limit
   -- each host is dealt once, after those whose innermost limited group comes earlier
   pub dealt_once : IsPermutation (range_with_len 0 (length fleet.hosts)) fleet.order

@@ -1,4 +1,4 @@
--- The hosts of an inventory, and which of them are off when a run starts.
+-- The hosts of an inventory, and those that are off when a run starts.
 use Rattle.std.specs.Prelude.{ℕ, Bool, false, cond, Option, Some, None, List, [], ◌∷◌, map, codes, unwrap_or, nat_eq}
 use Rattle.std.specs.Option.{option_or}
 use Rattle.group_tree.specs.Names.{Name}
@@ -8,11 +8,11 @@ use Rattle.group_tree.specs.Members.{is_of}
 use Rattle.group_tree.specs.Subtrees.{Host}
 use Rattle.fleet_index.specs.SortedNames.{sorted_names}
 
--- the names of all hosts, each once, in the order of their bytes
+-- the names of all hosts, each once, in byte order
 abbrev pub hosts_of : Inventory → List Name
 hosts_of inventory = sorted_names (map (λ (row : Row). row.host) inventory.rows)
 
--- the variable of a host that says that it is down when a run starts
+-- the variable of a host that marks it as down when a run starts
 abbrev pub down : Name
 down = codes "down"
 
@@ -22,7 +22,7 @@ truth_of (Some (Text text)) = None
 truth_of (Some (Int number)) = None
 truth_of (Some (Truth truth)) = Some truth
 
--- what the last of the host's rows that give `down` as a truth value gives
+-- the value of `down` in the last of the host's rows that set it to a boolean
 abbrev pub last_down : Name → List Row → Option Bool
 last_down host [] = None
 last_down host (row ∷ later) =
@@ -31,7 +31,7 @@ last_down host (row ∷ later) =
 abbrev pub is_off : Inventory → Name → Bool
 is_off inventory host = unwrap_or (last_down host inventory.rows) false
 
--- the same by the host's number, where the first part of a pair is the number of a row's host
+-- likewise by the host's number; the first part of a pair is the number of a row's host
 abbrev pub last_down_of : ℕ → List (ℕ × ℕ) → List Host → Option Bool
 last_down_of host [] hosts = None
 last_down_of host (number ∷ numbers) [] = None

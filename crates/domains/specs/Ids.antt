@@ -1,2 +1,2 @@
--- The numbers of hosts and groups as they are lent.
+-- The numbers of borrowed hosts and groups.
 pub use Rattle.fleet_index.specs.Ids.{host_numbers, group_numbers, host_lists, group_lists}

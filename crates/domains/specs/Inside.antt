@@ -1,4 +1,4 @@
--- What is kept of a fleet inside its type, and how contracts show it.
+-- The private state of a fleet, and how contracts show it.
 use Rattle.std.specs.Prelude.{map}
 use Rattle.std.specs.String.{string_bytes}
 use Rattle.fleet_index.specs.DealOrder.{ArePlacesOf}
@@ -19,7 +19,7 @@ shown fleet =
       order = host_numbers fleet.order.items;
     }
 
--- the fleet is sound, and each host's place is where it stands in the deal order
+-- the fleet is sound, and each host's place is its position in the deal order
 pub record IsConsistent (fleet : Inside) : Type 0 where
   pub sound : IsSound (shown fleet)
   pub places : ArePlacesOf (shown fleet).order fleet.places.items

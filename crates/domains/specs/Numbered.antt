@@ -1,4 +1,4 @@
--- An inventory by the numbers of its hosts, in the order of their names, and of its groups, in preorder.
+-- An inventory by the numbers of its hosts, in name order, and of its groups, in preorder.
 use Rattle.std.specs.Prelude.{◌≡◌, ℕ, ◌<◌, Bool, Option, List, [], map, length, slice_index_or, All}
 use Rattle.group_tree.specs.Names.{Name}
 use Rattle.group_tree.specs.Places.{Place, Row, Inventory, row_path, path_of}
@@ -10,7 +10,7 @@ use Rattle.domains.specs.Starts.{place_at}
 abbrev pub host_at : List Name → ℕ → Name
 host_at hosts number = slice_index_or hosts number []
 
--- a row's host and path, and the same of two numbers
+-- a row's host and path, and likewise for two numbers
 abbrev pub host_and_path : Row → Name × List Name
 host_and_path row = (row.host, row_path row)
 

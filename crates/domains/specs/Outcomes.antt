@@ -1,4 +1,4 @@
--- What is made of an inventory's numbers and lists.
+-- What is built from an inventory's numbers and lists.
 use Rattle.std.specs.Prelude.{ℕ, Option, List, length, map, option_map}
 use Rattle.std.specs.String.{string_bytes}
 use Rattle.domains.specs.FleetViews.{FleetView}
@@ -33,7 +33,7 @@ AreListsFrom numbers lists =
     AreFleetLists (length (host_names numbers)) (own_limits numbers) numbers.depths.items numbers.rows.items lists.limits.items
     (group_lists lists.chains.items) (host_lists lists.members.items) lists.parents.items lists.subtree_ends.items
 
--- the fleet of the numbers and lists, its hosts dealt in this order
+-- the fleet with these numbers and lists, and its hosts dealt in this order
 abbrev pub dealt_fleet : Numbers → FleetLists → List ℕ → FleetView
 dealt_fleet numbers lists order =
     record {

@@ -1,10 +1,10 @@
--- A walk over a tree's groups and their hosts, as it is listed.
+-- The groups of a tree and their hosts, listed in preorder.
 use Rattle.std.specs.Prelude.{ℕ, List, map}
 use Rattle.group_tree.specs.Subtrees.{Host, Subtree}
 use Rattle.domains.specs.declared.rows.HostRow.{HostRow}
 use Rattle.domains.specs.declared.walk.WalkedGroup.{WalkedGroup}
 
--- the groups, with how many groups stand above each
+-- the groups, each with the number of groups above it
 abbrev pub walked_group : {A : Type 0} → WalkedGroup A → Subtree × ℕ
 walked_group walked = (walked.group.now, walked.depth)
 

@@ -1,4 +1,4 @@
-//! The pairs of limited groups that cross, each with the first of its hosts.
+//! The pairs of limited groups that cross, each with the first host at which they do.
 ghost use Rattle.std.specs.Prelude.{◌≡◌, ℕ, ◌*◌, ◌^◌, ◌<◌, ◌||◌, ◌++◌, [], false, nat_eq, length, map, slice_index_or, All, IfOk, IsTrue, List, OnOk};
 ghost use Rattle.fleet_index.specs.Chains.{ends_before};
 ghost use Rattle.fleet_index.specs.NumberLists.{IsRising};
@@ -14,7 +14,7 @@ use fleet_index::first_crossing;
 use group_tree::GroupId;
 use std::alloc::{AllocError, Global};
 
-/// Whether of any two limited groups of a host one contains the other.
+/// Returns whether, of any two limited groups of a host, one contains the other.
 fn are_nested(chains: &[Vec<GroupId>], ends: &[usize]) -> bool
     requires { All (IsRising (length ends.now)) (group_lists chains.now) }
     ensures { IsTrue result → AreChainsNested ends.now (group_lists chains.now) }
@@ -27,7 +27,7 @@ fn are_nested(chains: &[Vec<GroupId>], ends: &[usize]) -> bool
     true
 }
 
-/// Whether the second group comes after the last one at or below the first.
+/// Returns whether the second group comes after the last one at or below the first.
 fn crosses(ends: &[usize], crossing: Crossing) -> bool
     requires { crossing.first < length ends.now }
     ensures { result ≡ ends_before ends.now crossing.first crossing.second }
@@ -48,7 +48,8 @@ fn set_mark(marks: &mut Vec<bool>, place: usize) -> bool
     was
 }
 
-/// What is found so far: each pair of groups once. The marks of the pairs with one first group are side by side.
+/// The crossings found so far, each pair of groups once. The marks of the pairs with the same first group are
+/// adjacent.
 #[derive(Drop)]
 struct Crossings {
     found: Vec<Finding>,
@@ -66,7 +67,7 @@ impl Crossings {
         Ok(Crossings { found, marks })
     }
 
-    /// Adds the crossing, unless its groups don't cross or did at a host before.
+    /// Adds the crossing, unless its groups don't cross or are already listed.
     fn add(&mut self, crossing: Crossing, ends: &[usize]) -> Result<(), AllocError>
         requires first_in { crossing.first < length ends.now }
         requires second_in { crossing.second < length ends.now }
@@ -87,7 +88,7 @@ impl Crossings {
         Ok(())
     }
 
-    /// Adds the crossings of the host's groups with this first one.
+    /// Adds the crossings of the host's other groups with `first`.
     fn add_with(
         &mut self,
         host: usize,
@@ -130,7 +131,7 @@ impl Crossings {
     }
 }
 
-/// Each pair of limited groups that cross, with the first host at which they do, in the order of these hosts.
+/// Returns each pair of limited groups that cross, with the first host at which they do, in the order of these hosts.
 pub(crate) fn find_crossings(
     alloc: Global,
     chains: &[Vec<GroupId>],

@@ -1,4 +1,4 @@
-//! Why an inventory is no fleet.
+//! Why an inventory is not a valid fleet.
 ghost use Rattle.std.specs.Prelude.{◌≡◌};
 ghost use Rattle.domains.specs.FaultNumbers.{fleet_number};
 
@@ -9,14 +9,14 @@ use thiserror::Error;
 pub enum FleetFault {
     #[error("there are too many hosts")]
     TooManyHosts,
-    /// `host` is in two limited groups of which neither contains the other.
+    /// `host` is in two limited groups, and neither contains the other.
     #[error("host {host} is in {first} and in {second}, and neither contains the other")]
     NotNested {
         host: String,
         first: String,
         second: String,
     },
-    /// More hosts of `group` are down than its limit.
+    /// More hosts of `group` are down than its limit allows.
     #[error("{down} hosts of {group} are down, and its limit is {limit}")]
     StartOver {
         group: String,
@@ -28,7 +28,7 @@ pub enum FleetFault {
 }
 
 impl FleetFault {
-    /// The number of the rule that is broken; want of memory breaks none.
+    /// Returns the error number. Running out of memory has none.
     pub fn number(&self) -> Option<u16>
         ensures { result ≡ fleet_number self.now }
     {

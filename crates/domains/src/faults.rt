@@ -1,4 +1,4 @@
-//! All that keeps an inventory from being a fleet.
+//! All errors that keep an inventory from being a fleet.
 ghost use Rattle.std.specs.Prelude.{◌≡◌, IfOk, Some, map};
 ghost use Rattle.group_tree.specs.Bounds.{IsWithinBounds};
 ghost use Rattle.group_tree.specs.Places.{Inventory};
@@ -16,14 +16,14 @@ use crate::numbers::Numbers;
 use crate::starts::find_overs;
 use std::alloc::{AllocError, Global};
 
-/// The first faults of an inventory, and how many more it has.
+/// The first errors of an inventory, and how many more it has.
 #[derive(Debug, Drop)]
 pub struct FleetTold {
     pub faults: Vec<FleetFault>,
     pub more: usize,
 }
 
-/// Each pair of limited groups that cross; where there is none, each group that starts over its limit.
+/// Returns each pair of limited groups that cross, or, if there is none, each group that starts over its limit.
 pub(crate) fn find_all(
     alloc: Global,
     numbers: &Numbers,
@@ -45,7 +45,7 @@ pub(crate) fn find_all(
     find_overs(alloc, members, limits, numbers.off.as_slice())
 }
 
-/// The fault that tells the finding by the names of its host and groups.
+/// Returns the error for a finding, with the names of its host and groups.
 fn name_finding(
     alloc: Global,
     numbers: &Numbers,
@@ -70,7 +70,7 @@ fn name_finding(
     }
 }
 
-/// Tells the first of these, at most `most`, and how many more there are.
+/// Returns the first `most` findings as errors, and how many more there are.
 pub(crate) fn tell(
     alloc: Global,
     numbers: &Numbers,

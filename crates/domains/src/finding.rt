@@ -1,6 +1,6 @@
 //! What keeps numbered hosts and groups from being a fleet.
 
-/// Two limited groups that cross at a host, all by their numbers.
+/// Two limited groups that cross at a host, all by number.
 #[derive(Clone, Copy)]
 pub(crate) struct Crossing {
     pub(crate) host: usize,
@@ -13,7 +13,7 @@ pub(crate) enum Finding {
     /// There are too many hosts.
     Hosts,
     Nesting(Crossing),
-    /// More hosts of the group are off than its limit.
+    /// More hosts of the group are off than its limit allows.
     Start {
         group: usize,
         down: usize,

@@ -22,11 +22,11 @@ use indexmap::IndexSet;
 use std::alloc::{AllocError, Allocator, Global};
 use std::marker::Model;
 
-/// The most hosts that a fleet has.
+/// The maximum number of hosts of a fleet.
 pub const HOSTS_BOUND: usize = 4096;
 
-/// Hosts in the order of their names, groups in preorder, each with its number. Where a host is in several limited
-/// groups, each of them contains the next.
+/// Hosts in name order and groups in preorder, each with its number. If a host is in several limited groups, each of
+/// them contains the next.
 #[derive(Drop)]
 pub struct Fleet {
     hosts: Vec<String>,
@@ -53,8 +53,9 @@ impl Model for Fleet {
 }
 
 impl Fleet {
-    /// Numbers the hosts and groups of a tree and tests how its limits nest and what is down at the start. The first rule
-    /// that is broken refuses it, in the order of `build_or_tell`; otherwise only want of memory does.
+    /// Numbers the hosts and groups of a tree, and checks the nesting of its limits and which hosts are down at the
+    /// start. It returns the first broken rule, in the order of `build_or_tell`. Otherwise it fails only if an
+    /// allocation fails.
     pub fn build<A: Allocator>(alloc: Global, tree: &Tree<A>) -> Result<Fleet, FleetFault>
         ensures ok { IfOk result (IsFleetOf tree.now) }
         ensures err { IfErr result (IsFaultOf tree.now) }
@@ -65,10 +66,11 @@ impl Fleet {
         }
     }
 
-    /// The fleet of a tree, or the faults that keep it from being one, at most `most` of them, and how many more there are.
-    /// Where there are too many hosts, that alone; else each pair of limited groups that share a host and of which neither
-    /// contains the other, with the first such host by name, in the order of these hosts; where there is none, each group of
-    /// which more hosts are down than its limit, in preorder. It fails for want of memory alone.
+    /// Returns the fleet of a tree, or its errors: at most `most` of them, and how many more there are. If there are
+    /// too many hosts, that is the only error. Otherwise, the errors are the pairs of limited groups that share a
+    /// host although neither contains the other. Each pair comes with the first such host by name, in the order of
+    /// these hosts. If there is no such pair, they are the groups with more hosts down than their limits allow, in
+    /// preorder. Fails only if an allocation fails.
     pub fn build_or_tell<A: Allocator>(
         alloc: Global,
         tree: &Tree<A>,
@@ -94,7 +96,7 @@ impl Fleet {
     }
 }
 
-/// The fleet of these numbers and lists, once its hosts are dealt.
+/// Returns the fleet with these numbers and lists, after dealing its hosts.
 fn deal(alloc: Global, numbers: Numbers, lists: FleetLists) -> Result<Fleet, AllocError>
     requires below { All (λ chain. IsTrue (are_below numbered_bound chain)) (group_lists lists.chains.items) }
     requires sound { (order : List ℕ) → IsPermutation (range_with_len 0 (length (group_lists lists.chains.items))) order

@@ -1,7 +1,7 @@
-//! What holds of the fleets of an inventory, whoever made them.
+//! Laws of the fleets of an inventory, however they were built.
 ghost use Rattle.domains.specs.Laws.{OneFleet};
 
-/// An inventory has one fleet at most: its hosts are dealt in one order.
+/// An inventory has at most one fleet: its hosts are dealt in one order.
 pub fn one_fleet()
     ensures { OneFleet }
 {}

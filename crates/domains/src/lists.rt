@@ -1,4 +1,4 @@
-//! The lists of a fleet, from the numbers on its groups' paths and its rows.
+//! The lists of a fleet, derived from the paths of its groups and its rows.
 ghost use Rattle.std.specs.Prelude.{◌≡◌, ◌<◌, ◌≤◌, ◌^◌, IfOk, All, length, map, option_map};
 ghost use Rattle.std.specs.String.{string_bytes};
 ghost use Rattle.group_tree.specs.DownLimits.{allowed};
@@ -15,8 +15,8 @@ use fleet_index::{
 use group_tree::{GroupId, HostId, Limit};
 use std::alloc::{AllocError, Global};
 
-/// For each group how many of its hosts may be down at once, its hosts, the group directly above it and the last one at
-/// or below it, and for each host its limited groups.
+/// For each group: its limit, its hosts, the group directly above it, and the last one at or below it. For each host:
+/// its limited groups.
 #[derive(Drop)]
 pub(crate) struct FleetLists {
     pub(crate) limits: Vec<Option<u16>>,
@@ -26,7 +26,7 @@ pub(crate) struct FleetLists {
     pub(crate) subtree_ends: Vec<usize>,
 }
 
-/// The limited groups of a host.
+/// Returns the limited groups of a host.
 pub(crate) fn chain_at(chains: &[Vec<GroupId>], host: usize) -> &[GroupId]
     requires { host < length chains.now }
     ensures { group_numbers result.now ≡ list_at (group_lists chains.now) host }
@@ -34,7 +34,7 @@ pub(crate) fn chain_at(chains: &[Vec<GroupId>], host: usize) -> &[GroupId]
     chains[host].as_slice()
 }
 
-/// The hosts of a group.
+/// Returns the hosts of a group.
 pub(crate) fn members_at(members: &[Vec<HostId>], group: usize) -> &[HostId]
     requires { group < length members.now }
     ensures { host_numbers result.now ≡ list_at (host_lists members.now) group }
@@ -42,7 +42,7 @@ pub(crate) fn members_at(members: &[Vec<HostId>], group: usize) -> &[HostId]
     members[group].as_slice()
 }
 
-/// The group before the last on a path.
+/// Returns the second to last group on a path.
 fn parent_on_path(path: &[usize]) -> Option<usize>
     ensures { result ≡ parent_on path.now }
 {

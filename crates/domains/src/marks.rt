@@ -1,4 +1,4 @@
-//! Flags of the hosts that names name.
+//! Flags of the hosts that a pattern matches.
 ghost use Rattle.std.specs.Prelude.{◌≡◌, ℕ, ◌<◌, ◌||◌, not, true, false, IfOk, IfErr, OnOk, All, None, length, slice_index_or};
 ghost use Rattle.std.specs.List.{list_any, find};
 ghost use Rattle.text_syntax.specs.Patterns.{parts_of};
@@ -12,7 +12,7 @@ use group_tree::{GroupId, HostId};
 use std::alloc::{AllocError, Global};
 use text_syntax::first_part;
 
-/// The flags of groups spare a second walk over the hosts of a group that is named twice.
+/// The flags of groups avoid a second pass over the hosts of a group that is named twice.
 #[derive(Drop)]
 pub(crate) struct Marks {
     groups: Vec<bool>,
@@ -31,7 +31,7 @@ fn flag_all(hosts: &[HostId], flags: &mut Vec<bool>)
 }
 
 impl Marks {
-    /// No group and no host has a flag.
+    /// Creates flags that are all unset.
     pub(crate) fn new(alloc: Global, fleet: &Fleet) -> Result<Marks, AllocError>
         ensures flags { IfOk result (λ marks. AreFlags fleet.now marks.groups.items marks.hosts.items) }
         ensures none { IfOk result (λ marks. (host : ℕ) → slice_index_or marks.hosts.items host false ≡ false) }
@@ -56,7 +56,8 @@ impl Marks {
         }
     }
 
-    /// Whether a group or a host has the name. Its hosts get their flags.
+    /// Sets the flags of the hosts of the group with this name, otherwise of the host with this name. Returns whether
+    /// either exists.
     #[tactic(auto, using(crate::proofs::MarkLemmas::group_known, crate::proofs::MarkLemmas::host_known, crate::proofs::MarkLemmas::host_flagged))]
     fn mark_name(&mut self, fleet: &Fleet, name: &str) -> bool
         requires { AreFlags fleet.now self.old.groups.items self.old.hosts.items }
@@ -78,7 +79,7 @@ impl Marks {
         }
     }
 
-    /// Marks the hosts that the parts of a pattern name, up to the first that names nothing.
+    /// Sets the flags of the hosts that the parts of a pattern match, up to the first part that matches nothing.
     pub(crate) fn mark_pattern(
         &mut self,
         alloc: Global,

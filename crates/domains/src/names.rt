@@ -18,8 +18,8 @@ fn own_names(alloc: Global, names: &[&str]) -> Result<Vec<String>, AllocError>
     Ok(own)
 }
 
-/// Where the name stands, if that is `near` or the front: a group that lists hosts of an earlier one most often lists them
-/// in its order.
+/// Returns the index of the name, if it is `near` or 0. A group that lists hosts of an earlier group usually lists
+/// them in the same order.
 fn find_listed(names: &[&str], near: usize, name: &str) -> Option<usize>
     ensures { IfSome result (λ place. (place < length names.now) × (slice_index_or (map (λ name. name.now) names.now) place [] ≡ name.now)) }
 {
@@ -41,7 +41,7 @@ fn has_name(names: &[&str], place: usize, name: &str) -> bool
     }
 }
 
-/// Adds a name that is not found near to those before it, and says where the next is likely to stand.
+/// Adds a name that is not found nearby, and returns where the next name is likely to be.
 fn note_name<'a>(names: &mut Vec<&'a str>, near: usize, name: &'a str) -> Result<usize, AllocError>
     ensures { OnOk result ((other : Name) → is_among other (map (λ name. name.now) names.new.items)
         ≡ (is_among other (map (λ name. name.now) names.old.items) || same_name other name.now)) }
@@ -53,7 +53,7 @@ fn note_name<'a>(names: &mut Vec<&'a str>, near: usize, name: &'a str) -> Result
     Ok(names.len())
 }
 
-/// The names of the rows, but for most that stood before, so that fewer are to be sorted.
+/// Returns the names of the rows, without most of the duplicates, so that fewer must be sorted.
 fn names_of<'a, A: Allocator>(
     alloc: Global,
     rows: &[HostRow<'a, A>],
@@ -69,7 +69,7 @@ fn names_of<'a, A: Allocator>(
     Ok(names)
 }
 
-/// The names of the hosts, each once, in the order of their bytes.
+/// Returns the names of the hosts, each once, in byte order.
 pub(crate) fn list_hosts<A: Allocator>(
     alloc: Global,
     rows: &[HostRow<'_, A>],
@@ -81,7 +81,7 @@ pub(crate) fn list_hosts<A: Allocator>(
     own_names(alloc, names.as_slice())
 }
 
-/// Each row as its host's and its group's number.
+/// Returns each row as the number of its host and of its group.
 pub(crate) fn number_rows<A: Allocator>(
     alloc: Global,
     rows: &[HostRow<'_, A>],
@@ -93,7 +93,7 @@ pub(crate) fn number_rows<A: Allocator>(
     ensures hosts_in { IfOk result (λ numbers. All (λ number. number.0 < length hosts.now) numbers.items) }
 {
     let mut numbers = Vec::with_capacity(alloc, rows.len())?;
-    // a group lists its hosts by name, so that the next one is likely to stand behind this one
+    // A group lists its hosts by name, so the next one is likely to follow this one.
     let mut near = 0;
     for row in rows {
         let host = find_name_near(hosts, near, row.host.name()).unwrap();
@@ -103,7 +103,7 @@ pub(crate) fn number_rows<A: Allocator>(
     Ok(numbers)
 }
 
-/// The name of a number, and no text past the end.
+/// Returns the name with a number, or the empty string past the end.
 pub(crate) fn name_at(alloc: Global, names: &[String], number: usize) -> Result<String, AllocError>
     ensures { IfOk result (λ name. string_bytes name ≡ slice_index_or (map string_bytes names.now) number []) }
 {

@@ -14,7 +14,7 @@ use group_tree::{Limit, Tree};
 use indexmap::IndexSet;
 use std::alloc::{AllocError, Allocator, Global};
 
-/// Hosts in the order of their names, groups in preorder; a row is a host's and a group's number.
+/// Hosts in name order and groups in preorder; a row is the number of a host and of a group.
 #[derive(Drop)]
 pub(crate) struct Numbers {
     pub(crate) hosts: Vec<String>,

@@ -1,4 +1,4 @@
-//! Which hosts are off when a run starts.
+//! The hosts that are off when a run starts.
 ghost use Rattle.std.specs.Prelude.{◌≡◌, ℕ, ◌<◌, IfOk, All, None, length, map, false, slice_index_or, slice_set, unwrap_or};
 ghost use Rattle.std.specs.Option.{option_or};
 ghost use Rattle.domains.specs.Hosts.{truth_of, down, last_down_of};
@@ -8,7 +8,7 @@ use crate::rows::HostRow;
 use group_tree::{Host, Scalar};
 use std::alloc::{AllocError, Allocator, Global};
 
-/// What a host's own variables say of it here.
+/// Returns the value of `down` in this row of a host, if it is a boolean.
 fn down_here<A: Allocator>(host: &Host<A>) -> Option<bool>
     ensures { result ≡ truth_of (model.value_of down host.now.variables) }
 {
@@ -18,7 +18,7 @@ fn down_here<A: Allocator>(host: &Host<A>) -> Option<bool>
     }
 }
 
-/// A later place goes before the earlier ones where it says whether the host is down.
+/// Records a later row, which overrides earlier ones if it specifies whether the host is down.
 fn note_place(last_downs: &mut Vec<Option<bool>>, host: usize, here: Option<bool>)
     requires { host < length last_downs.old.items }
     ensures { last_downs.new.items ≡ slice_set last_downs.old.items host (option_or here (slice_index_or last_downs.old.items host None)) }
@@ -26,7 +26,7 @@ fn note_place(last_downs: &mut Vec<Option<bool>>, host: usize, here: Option<bool
     last_downs[host] = here.or(last_downs[host]);
 }
 
-/// For each host what the last of its rows that give `down` as a truth value gives.
+/// Returns, for each host, the value of `down` in the last of its rows that sets it to a boolean.
 fn list_last_downs<A: Allocator>(
     alloc: Global,
     hosts: usize,
@@ -46,7 +46,7 @@ fn list_last_downs<A: Allocator>(
     Ok(last_downs)
 }
 
-/// A host of whose rows none gives `down` is up.
+/// Returns which hosts are off. A host is up if none of its rows sets `down` to a boolean.
 pub(crate) fn list_off<A: Allocator>(
     alloc: Global,
     hosts: usize,

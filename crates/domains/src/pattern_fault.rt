@@ -1,4 +1,4 @@
-//! Why a pattern names no hosts.
+//! Why a pattern is rejected.
 ghost use Rattle.std.specs.Prelude.{◌≡◌};
 ghost use Rattle.domains.specs.FaultNumbers.{pattern_number};
 
@@ -15,7 +15,7 @@ pub enum PatternFault {
 }
 
 impl PatternFault {
-    /// The number of the rule that is broken; want of memory breaks none.
+    /// Returns the error number. Running out of memory has none.
     pub fn number(&self) -> Option<u16>
         ensures { result ≡ pattern_number self.now }
     {

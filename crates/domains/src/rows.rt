@@ -7,7 +7,7 @@ use crate::walk::WalkedGroup;
 use group_tree::Host;
 use std::alloc::{AllocError, Allocator, Global};
 
-/// A host as a group lists it, with the group's number.
+/// A host as listed by a group, with the number of the group.
 #[derive(Drop)]
 pub struct HostRow<'a, A: Allocator> {
     pub host: &'a Host<A>,
@@ -27,7 +27,8 @@ fn add_rows<'a, A: Allocator>(
     Ok(())
 }
 
-/// The hosts as the groups list them, from the first group on, which has the number 0. It fails for want of memory alone.
+/// Returns the hosts as listed by the groups, in order; the first group has number 0. Fails only if an allocation
+/// fails.
 pub fn list_rows<'a, A: Allocator>(
     alloc: Global,
     groups: &[WalkedGroup<'a, A>],

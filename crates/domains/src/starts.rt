@@ -10,7 +10,7 @@ use crate::lists::members_at;
 use group_tree::HostId;
 use std::alloc::{AllocError, Global};
 
-/// A number that no host has is up.
+/// Returns whether a host is off. A number without a host counts as up.
 fn is_off(off: &[bool], host: usize) -> bool
     ensures { result ≡ slice_index_or off.now host false }
 {
@@ -20,7 +20,7 @@ fn is_off(off: &[bool], host: usize) -> bool
     }
 }
 
-/// How many of these hosts are off.
+/// Returns how many of these hosts are off.
 pub(crate) fn count_off(hosts: &[HostId], off: &[bool]) -> usize
     ensures { result ≡ off_count off.now (host_numbers hosts.now) }
 {
@@ -42,7 +42,7 @@ fn push_where(found: &mut Vec<Finding>, over: Finding, is_over: bool) -> Result<
     Ok(())
 }
 
-/// Adds the group, where more of its hosts are off than its limit.
+/// Adds the group if more of its hosts are off than its limit allows.
 fn push_over(
     found: &mut Vec<Finding>,
     group: usize,
@@ -60,7 +60,7 @@ fn push_over(
     }
 }
 
-/// The groups of which more hosts are off than their limits, in preorder.
+/// Returns the groups with more hosts off than their limits allow, in preorder.
 pub(crate) fn find_overs(
     alloc: Global,
     members: &[Vec<HostId>],

@@ -1,4 +1,4 @@
-//! The hosts that a pattern names.
+//! The hosts that a pattern matches.
 ghost use Rattle.std.specs.Prelude.{◌≡◌, ◌∷◌, ◌++◌, IfOk, IfErr, OnOk, None, [], cond, false, length, map, slice_index_or};
 ghost use Rattle.std.specs.List.{find};
 ghost use Rattle.text_syntax.specs.Patterns.{parts_of};
@@ -12,9 +12,9 @@ use group_tree::HostId;
 use std::alloc::{AllocError, Global};
 
 impl Fleet {
-    /// The hosts that the parts of a pattern name, in the order of their names, each once. A part is the name of a group,
-    /// which stands for its hosts, or of a host; where both have the name it is the group's. The first part that names
-    /// nothing refuses the pattern; otherwise only want of memory does.
+    /// Returns the hosts that the parts of a pattern match, in name order, each once. A part is the name of a group,
+    /// which matches its hosts, or of a host. If a group and a host share the name, it is the group's. The pattern is
+    /// rejected at the first part that matches nothing. Otherwise this fails only if an allocation fails.
     pub fn target(&self, alloc: Global, pattern: &str) -> Result<Vec<HostId>, PatternFault>
         ensures hosts { IfOk result (λ hosts. map (λ host. host.index) hosts.items ≡ named_hosts self.now (parts_of pattern.now)) }
         ensures known { OnOk result (find (names_nothing self.now) (parts_of pattern.now) ≡ None) }
@@ -26,7 +26,7 @@ impl Fleet {
     }
 }
 
-/// Adds the host of this number where it has a flag.
+/// Adds the host with this number if its flag is set.
 fn push_flagged(hosts: &mut Vec<HostId>, index: usize, flag: bool) -> Result<(), AllocError>
     ensures { OnOk result (map (λ host. host.index) hosts.new.items ≡ map (λ host. host.index) hosts.old.items ++ cond flag (index ∷ []) []) }
 {

@@ -7,15 +7,15 @@ ghost use Rattle.domains.specs.Walked.{walked_groups};
 use group_tree::Group;
 use std::alloc::{AllocError, Allocator};
 
-/// A group, with how many groups stand above it.
+/// A group, with the number of groups above it.
 #[derive(Drop)]
 pub struct WalkedGroup<'a, A: Allocator> {
     pub group: &'a Group<A>,
     pub depth: usize,
 }
 
-/// Adds a group, above which `depth` groups stand, and all groups below it to a list, in preorder. It fails for want of
-/// memory alone, and then has added some of them.
+/// Adds a group that has `depth` groups above it, and all groups below it, to a list in preorder. Fails only if an
+/// allocation fails; then it has added some of them.
 pub fn list_walk<'a, A: Allocator>(
     group: &'a Group<A>,
     depth: usize,

@@ -1,4 +1,4 @@
--- Hosts for which there is no room, and hosts that are set aside.
+-- Hosts without room, and held hosts.
 use Rattle.std.proofs.Common.{◌≡◌, ℕ, ◌+◌, ◌<◌, true, false, ◌&&◌, cond, List, [], ◌∷◌, length, get_or, set, take, ap, ◌∙◌, refl, subst, arith}
 use Rattle.std.specs.List.{list_all}
 use Rattle.std.proofs.lemmas.List.Folds.{list_all_more, list_any_at, list_any_none}
@@ -16,7 +16,7 @@ use Rattle.fleet_states.proofs.StatusLemmas.{status_at-changed, waiting_within}
 use Rattle.down_ledger.specs.Unfit.{IsFirstFull, IsFirstWithRoom}
 use Rattle.down_ledger.proofs.OpeningLemmas.{ready_distinct}
 
--- what the groups tell of one host
+-- what the groups determine for one host
 module _ (groups : List FleetGroup) (statuses : List Status) (host : ℕ) where
   pub stuck_where_full : (group : ℕ) → IsFirstFull groups statuses (host ∷ []) group → lacks_room groups statuses host ≡ true
   stuck_where_full group full = list_any_at (is_full_for statuses (host ∷ [])) groups group no_group full.within full.full
@@ -24,7 +24,7 @@ module _ (groups : List FleetGroup) (statuses : List Status) (host : ℕ) where
   pub room_where_fits : Fits groups statuses (host ∷ []) → lacks_room groups statuses host ≡ false
   room_where_fits fits = list_any_none (is_full_for statuses (host ∷ [])) groups fits
 
--- the host at a place of hosts that wait
+-- the host at an index of waiting hosts
 module _ (statuses : List Status) (hosts : List HostId) (ready : are_ready statuses (host_numbers hosts) ≡ true) (i : ℕ) (d : HostId) (within : i < length hosts) where
   inside : i < length (host_numbers hosts)
   inside = omega (arith, within, length-host_numbers hosts)
@@ -37,7 +37,7 @@ module _ (statuses : List Status) (hosts : List HostId) (ready : are_ready statu
   fresh_here =
       subst (λ (n : ℕ). has_number n (take i (host_numbers hosts)) ≡ false) (number_of_host hosts i d within) (distinct_fresh (host_numbers hosts) i (ready_distinct statuses (host_numbers hosts) ready) inside)
 
-  -- it still waits once those before it are set aside
+  -- it still waits after the earlier ones are held
   pub waits_beside : is_waiting (status_at (changed (λ _. Held) (take i (host_numbers hosts)) statuses) (get_or hosts i d).index) ≡ true
   waits_beside =
       ap is_waiting (status_at-changed (λ _. Held) (take i (host_numbers hosts)) statuses (get_or hosts i d).index (waiting_within statuses (get_or hosts i d).index waits_here))

@@ -1,4 +1,4 @@
--- What the counts of a ledger are, and what they become as one host goes down or comes up.
+-- The counts of a ledger, and their changes as one host goes down or comes up.
 use Rattle.std.proofs.Common.{◌≡◌, ℕ, ◌+◌, ◌^◌, ◌≤◌, ◌<◌, Bool, true, false, ◌&&◌, ◌||◌, cond, leb, nat_eq, zero, suc, ◌∷◌, take, IfSome, All, None, Some, Option, is_some, List, [], length, map, get_or, set, sym, ap, ◌∙◌, refl, subst, arith, inl, inr, ◌⊎◌}
 use Rattle.std.specs.List.{count_by, list_any}
 use Rattle.std.proofs.lemmas.List.Folds.{list_any_more}
@@ -29,7 +29,7 @@ zero_if : (b : Bool) (n : ℕ) → n ≡ 0 → cond b n 0 ≡ 0
 zero_if true n e = e
 zero_if false n e = refl
 
--- a limited group's count follows its members, and any other stays 0
+-- a limited group's count follows its members, and any other count stays 0
 balanced : (limited member : Bool) (was is before after old new : ℕ) → after + cond member was 0 ≡ before + cond member is 0 → new + cond (limited && member) was 0 ≡ old + cond (limited && member) is 0 → old ≡ cond limited before 0 → new ≡ cond limited after 0
 balanced true member was is before after old new counted moved count = omega (arith, counted, moved, count)
 balanced false member was is before after old new counted moved count = omega (arith, moved, count)
@@ -65,7 +65,7 @@ module _ (ledger : LedgerView) (sound : IsSound ledger.fleet) (all : length ledg
   few_down group =
       omega (arith, count_by-le-length (is_marked ledger.down) (members group), (members_are group).1, sound.few_hosts)
 
-  -- a host that goes down or comes up moves the counts of its groups alone
+  -- a host that goes down or comes up changes only the counts of its groups
   module _ (host : ℕ) (within : host < length fleet.hosts) (mark : Bool) where
     pub moved : (group : ℕ) → down_in (with_mark ledger host mark) group + cond (has_number host (members group)) (bit (is_marked ledger.down host)) 0 ≡ down_in ledger group + cond (has_number host (members group)) (bit mark) 0
     moved group =
@@ -74,7 +74,7 @@ module _ (ledger : LedgerView) (sound : IsSound ledger.fleet) (all : length ledg
         count_change (is_marked ledger.down) (is_marked (set ledger.down host mark)) host same (members group) (members_are group).0
         ∙ ap (λ b. down_in ledger group + cond (has_number host (members group)) (bit b) 0) written
 
-    -- counts that moved along the host's chain are counted from the set
+    -- counts that changed along the host's chain are those of the set
     pub recounted : (old new : List ℕ) → old ≡ limited_counts ledger → length new ≡ length old
         → ((group : ℕ) → group < length old → get_or new group 0 + cond (has_number group (chain host)) (bit (is_marked ledger.down host)) 0 ≡ get_or old group 0 + cond (has_number group (chain host)) (bit mark) 0)
         → new ≡ limited_counts (with_mark ledger host mark)
@@ -96,7 +96,7 @@ module _ (ledger : LedgerView) (sound : IsSound ledger.fleet) (all : length ledg
             balanced (is_limited fleet.limits group) (has_number host (members group)) (bit (is_marked ledger.down host)) (bit mark) (down_in ledger group) (down_in after group) (get_or old group 0) (get_or new group 0) (moved group) by_code was
             ∙ sym is
 
-  -- the count of a limited group that holds a host which is down
+  -- the count of a limited group that contains a host which is down
   pub some_down : (host group : ℕ) → is_marked ledger.down host ≡ true → has_number group (chain host) ≡ true → 0 < limited_count ledger group
   some_down host group down holds =
       let both : (is_limited fleet.limits group && has_number host (members group)) ≡ true = sym (sound.chain_exact host group) ∙ holds in
@@ -106,7 +106,7 @@ module _ (ledger : LedgerView) (sound : IsSound ledger.fleet) (all : length ledg
       by_limited true member both some = some both
       by_limited false member both some = absurd (cc)
 
-  -- each group stays within its limit as a host goes down for which there is room
+  -- each group stays within its limit if a host with room goes down
   pub within_taken : (host : ℕ) → host < length fleet.hosts → is_marked ledger.down host ≡ false → HasRoom ledger host
       → ((group : ℕ) → exceeds (limit_of group) (down_in ledger group) ≡ false)
       → (group : ℕ) → exceeds (limit_of group) (down_in (with_mark ledger host true) group) ≡ false
@@ -129,7 +129,7 @@ module _ (ledger : LedgerView) (sound : IsSound ledger.fleet) (all : length ledg
       by_limit (Some limit) false holds room under moved =
           exceeds_less (Some limit) (down_in ledger group) after under (omega (arith, moved))
 
-  -- and as a host comes up
+  -- and if a host comes up
   pub within_given_back : (host : ℕ) → host < length fleet.hosts
       → ((group : ℕ) → exceeds (limit_of group) (down_in ledger group) ≡ false)
       → (group : ℕ) → exceeds (limit_of group) (down_in (with_mark ledger host false) group) ≡ false
@@ -137,7 +137,7 @@ module _ (ledger : LedgerView) (sound : IsSound ledger.fleet) (all : length ledg
       let none : cond (has_number host (members group)) (bit false) 0 ≡ 0 = zero_if (has_number host (members group)) (bit false) refl in
       exceeds_less (limit_of group) (down_in ledger group) (down_in (with_mark ledger host false) group) (under group) (omega (arith, moved host within false group, none))
 
--- marks that say who is down count as the statuses do
+-- marks that are set for hosts that are down count as the statuses do
 pub marked_as : (statuses : List Status) (host : ℕ) → is_marked (map is_down statuses) host ≡ is_down (status_at statuses host)
 marked_as statuses host = by_case (cases_lt host (length statuses))
   where
@@ -162,7 +162,7 @@ starts_within fleet statuses sound safe group = by_case (cases_lt group (length 
     by_case (inr l) =
         ap (λ limit. exceeds limit (down_in (ledger_of fleet statuses) group)) (get_or_past fleet.limits group None (omega (arith, l, sound.all_limits)))
 
--- in rising numbers, what is below the one at a place stands before it
+-- in ascending numbers, a smaller number than the one at an index comes before it
 pub stands_before : (low high : ℕ) (xs : List ℕ) (i n : ℕ) → Ascends low high xs → i < length xs → has_number n xs ≡ true → n < get_or xs i 0 → has_number n (take i xs) ≡ true
 stands_before low high [] i n up within here less = absurd (omega arith)
 stands_before low high (x ∷ xs) zero n up within here less =
@@ -201,7 +201,7 @@ module _ (ledger : LedgerView) (counts : List ℕ) (is : IsCounted ledger counts
         by_case (inl l) = le-leb limit (down_in ledger group) (omega (arith, l)) ∙ sym (lt-ltb limit (down_in ledger group + 1) l)
         by_case (inr l) = lt-leb limit (down_in ledger group) (omega (arith, l)) ∙ sym (le-ltb limit (down_in ledger group + 1) l)
 
-  -- the counts of a chain are small, and can be lowered where its host is down
+  -- the counts of a chain are small, and can be lowered if its host is down
   pub counts_small : All (λ count. count < 2 ^ 63) counts
   counts_small k d within =
       let inside : k < length ledger.fleet.groups = omega (arith, within, length-counts) in
@@ -267,7 +267,7 @@ module _ (ledger : LedgerView) (host bound : ℕ) (chain : List GroupId) (is : g
         before : (outer : ℕ) → outer < get_or numbers i 0 → has_number outer numbers ≡ true → has_number outer (take i numbers) ≡ true
         before outer less here = stands_before 0 bound numbers i outer (Ascends-rising bound numbers rises) inside here less
 
--- the ledger after a host goes down for which there is room, or comes up
+-- the ledger after a host with room goes down, or a host comes up
 module _ (ledger : LedgerView) (counts new : List ℕ) (is : IsCounted ledger counts) (host : ℕ) (within : host < length ledger.fleet.hosts) (long : length new ≡ length counts) where
   abbrev own : List ℕ
   own = list_at ledger.fleet.chains host

@@ -1,4 +1,4 @@
--- A host at which a list of waiting hosts ends.
+-- A host that ends a list of waiting hosts.
 use Rattle.std.proofs.Common.{◌≡◌, ℕ, ◌<◌, Bool, true, false, ◌&&◌, List, length, get_or, take, ap, ◌∙◌}
 use Rattle.fleet_states.specs.declared.status.Status.{Status}
 use Rattle.fleet_states.specs.declared.status.Status.TheVariants.{Running}

@@ -1,4 +1,4 @@
--- A batch that is taken down host by host.
+-- A batch that is taken down one host at a time.
 use Rattle.std.proofs.Common.{◌≡◌, ℕ, zero, suc, ◌+◌, ◌-◌, ◌≤◌, ◌<◌, Bool, true, false, ◌&&◌, ◌||◌, not, nat_eq, cond, Option, Some, None, option_map, List, [], ◌∷◌, length, get_or, set, take, sym, ap, ◌∙◌, refl, subst, arith, inl, inr, ◌⊎◌}
 use Rattle.std.specs.List.{count_by, list_any}
 use Rattle.std.proofs.lemmas.List.{ext_get_or, get_or_past, take_all, take-map}
@@ -43,7 +43,7 @@ not_from : (b : Bool) → b ≡ false → not b ≡ true
 not_from true e = sym e
 not_from false e = refl
 
--- the hosts before a place are down, and the one there waits
+-- the hosts before an index are down, and the one there waits
 module _ (statuses : List Status) (hosts : List ℕ) (ready : are_ready statuses hosts ≡ true) (i : ℕ) (within : i < length hosts) where
   pub waits_at : is_waiting (status_at (changed (λ _. Running) (take i hosts) statuses) (get_or hosts i 0)) ≡ true
   waits_at =
@@ -54,7 +54,7 @@ module _ (statuses : List Status) (hosts : List ℕ) (ready : are_ready statuses
   ready_step before =
       are_ready_more statuses hosts i within ∙ ap (λ b. b && is_waiting (status_at (changed (λ _. Running) (take i hosts) statuses) (get_or hosts i 0))) before ∙ waits_at
 
--- of a group that is full for the next host once those before it are down, all of the hosts are more than it has room for
+-- if a group is full for the next host after the earlier ones are down, the hosts together exceed its room
 module _ (statuses : List Status) (hosts : List ℕ) (i : ℕ) (within : i < length hosts) (ready : are_ready statuses (take i hosts) ≡ true) (distinct : are_distinct hosts ≡ true) (group : FleetGroup) where
   abbrev pub running : List Status
   running = changed (λ _. Running) (take i hosts) statuses
@@ -101,7 +101,7 @@ module _ (statuses : List Status) (hosts : List ℕ) (i : ℕ) (within : i < len
       by_limit (Some limit) full =
           lt-ltb _ _ (omega (arith, ltb-true (limit - down_count running group.members) (members_among (get_or hosts i 0 ∷ []) group) full, opened, one_more, fewer))
 
--- hosts that were taken down, none of whose shares rested, and brought up again
+-- hosts that were taken down, with no share resting before, and brought up again
 module _ (old now new : RosterView) (hosts : List ℕ) (rest : NobodyRests old) (ready : are_ready old.statuses hosts ≡ true) where
   pub put_back : HasChanged old now hosts (λ _. Running) true → HasChanged now new hosts (λ _. Waiting) false → new ≡ old
   put_back there back =
@@ -140,7 +140,7 @@ still_seated old now hosts i d change within distinct rest before =
         ∙ ap (λ b. cond b false (seated_at old.seated (get_or (host_numbers hosts) i 0))) (distinct_fresh (host_numbers hosts) i distinct inside)
         ∙ rest (get_or (host_numbers hosts) i 0) (number_at (host_numbers hosts) i inside)
 
--- whose share rests is a host
+-- a resting share belongs to an existing host
 pub seated_within : (roster : RosterView) (host : ℕ) → length roster.seated ≡ length roster.statuses → seated_at roster.seated host ≡ true → host < length roster.statuses
 seated_within roster host all rests = by_case (cases_lt host (length roster.seated))
   where

@@ -1,4 +1,4 @@
--- What the roster keeps as one host changes, and as some hosts do.
+-- What the roster stores as one host changes, and as some hosts do.
 use Rattle.std.proofs.Common.{◌≡◌, ℕ, zero, suc, ◌+◌, ◌-◌, ◌≤◌, ◌<◌, Bool, true, false, ◌&&◌, ◌||◌, nat_lt, option_map, ◌∷◌, cond, is_some, Option}
 use Rattle.std.proofs.Common.{Some, None, IfSome, MatchOption, List, [], map, length, get_or, set, take, replicate, sym, ap, ◌∙◌, refl, subst, arith, inl, inr, ◌⊎◌}
 use Rattle.std.proofs.lemmas.List.{ext_get_or, get_or-set_same, get_or-set_other, get_or_default, get_or_past, get_or-map, get_or-replicate, length-replicate, length-set, length-map, map-set, set-get_or}
@@ -32,7 +32,7 @@ abbrev pub shown : LedgerView → List Status → List (Option Share) → Roster
 shown ledger statuses seats = record { fleet = ledger.fleet; statuses = statuses; seated = map is_some seats }
 
 module _ (ledger : LedgerView) (statuses : List Status) (seats : List (Option Share)) (kept : IsKept ledger statuses seats) (host : ℕ) where
-  -- whose share rests is down
+  -- a host whose share rests is down
   pub seat_down : seated_at (map is_some seats) host ≡ true → (host < length statuses) × (is_marked ledger.down host ≡ true)
   seat_down rests = by_length (cases_lt host (length seats))
     where
@@ -105,7 +105,7 @@ module _ (ledger : LedgerView) (statuses : List Status) (seats : List (Option Sh
       by_case h (inr apart) =
           subst (IsSeat statuses h) (sym (get_or-set_other seats host h None None apart)) (kept.seats_are h)
 
-  -- whose share is found on a seat
+  -- the host of a share found on a seat
   pub taken_seat : (read : Option Share) (share : Share) → host < length seats → read ≡ get_or seats host read → read ≡ Some share → (share.host.index ≡ host) × (is_marked ledger.down host ≡ true)
   taken_seat read share within reads is =
       let found : get_or seats host None ≡ Some share = get_or_default seats host None read within ∙ sym reads ∙ is in
@@ -186,7 +186,7 @@ module _ (ledger : LedgerView) (statuses : List Status) (seats : List (Option Sh
   pub waits_up : is_marked ledger.down host ≡ false
   waits_up = ap (λ (d : List Bool). is_marked d host) kept.down_are ∙ marked_as statuses host ∙ waiting_not_down (status_at statuses host) waits
 
--- the ledger is what the statuses say
+-- the ledger matches the statuses
 pub ledger_is : (ledger : LedgerView) (statuses : List Status) (seats : List (Option Share)) → IsKept ledger statuses seats → ledger ≡ ledger_of ledger.fleet statuses
 ledger_is ledger statuses seats kept = ap (λ (d : List Bool). record ledger { down = d }) kept.down_are
 
@@ -198,7 +198,7 @@ safe_kept ledger statuses seats kept k d inside =
     let counted : down_in ledger k ≡ down_count statuses (list_at ledger.fleet.members k) = ap (λ (l : LedgerView). down_in l k) (ledger_is ledger statuses seats kept) ∙ down_in-statuses ledger.fleet statuses k in
     subst Under (sym (get_or-groups_of ledger.fleet k d here)) (sym (ap (exceeds limit) counted) ∙ kept.within k)
 
--- the members of a group, of a number that no group has too
+-- the members of a group, also for a number without a group
 pub members_at : (fleet : FleetView) → length fleet.members ≡ length fleet.groups → (group : ℕ) → (group_at (groups_of fleet) group).members ≡ list_at fleet.members group
 members_at fleet all group = by_case (cases_lt group (length fleet.groups))
   where
@@ -214,7 +214,7 @@ bare_seat = None
 abbrev bare_seats : ℕ → List (Option Share)
 bare_seats count = replicate count bare_seat
 
--- a roster on which nobody's share rests
+-- a roster on which no share rests
 pub starts_kept : (fleet : FleetView) (statuses : List Status) (count : ℕ) (seats : List (Option Share)) (ledger : LedgerView) → IsSound fleet → length statuses ≡ length fleet.hosts → IsSafe (groups_of fleet) statuses → count ≡ length statuses
     → seats ≡ replicate count None → ledger ≡ ledger_of fleet statuses → IsKept ledger statuses seats
 starts_kept fleet statuses count seats ledger sound all safe long bare is =
@@ -257,7 +257,7 @@ module _ (ledger : LedgerView) (statuses : List Status) (seats : List (Option Sh
   given_back_within new inside is =
       subst IsWithinLimits (sym is) (within_given_back ledger kept.sound marks_all host (omega (arith, inside, kept.all)) kept.within)
 
--- of distinct members one host alone is at most one
+-- of distinct members, at most one is a given host
 among_one : (host : ℕ) (members : List ℕ) → are_distinct members ≡ true → count_by (λ h. has_number h (host ∷ [])) members ≡ bit (has_number host members)
 among_one host members distinct =
     let changed = count_change (λ h. false) (λ h. has_number h (host ∷ [])) host (λ h apart. sym (ap (λ b. b || false) (ne_eqb h host apart))) members distinct in
@@ -292,7 +292,7 @@ module _ (ledger : LedgerView) (statuses : List Status) (seats : List (Option Sh
   group_is : (k : ℕ) → k < length ledger.fleet.groups → group_at groups k ≡ group_of ledger.fleet k
   group_is k inside = get_or-groups_of ledger.fleet k no_group inside
 
-  -- a group is full for a host exactly where it is limited, holds the host, and is at its limit
+  -- a group is full for a host exactly if it is limited, contains the host, and is at its limit
   pub full_alone : (k : ℕ) → k < length ledger.fleet.groups → is_full_for statuses alone (group_at groups k) ≡ (has_number k (list_at ledger.fleet.chains host) && is_full ledger k)
   full_alone k inside =
       ap (is_full_for statuses alone) (group_is k inside)

@@ -1,4 +1,4 @@
--- What only the proofs need: what the roster keeps between its calls.
+-- Definitions that only the proofs need: what the roster stores between its calls.
 use Rattle.std.specs.Prelude.{◌≡◌, ℕ, true, Option, None, IfSome, List, map, length, slice_index_or}
 use Rattle.domains.specs.FleetViews.{IsSound}
 use Rattle.fleet_states.specs.declared.status.Status.{Status}
@@ -10,7 +10,7 @@ use Rattle.down_ledger.specs.Ledgers.{LedgerView, IsWithinLimits}
 abbrev pub IsSeat : List Status → ℕ → Option Share → Type 0
 IsSeat statuses host seat = IfSome seat (λ share. (share.host.index ≡ host) × (is_down (status_at statuses host) ≡ true))
 
--- the ledger has just those hosts whose statuses say that they are down
+-- the ledger has exactly the hosts that are down by their statuses
 pub record IsKept (ledger : LedgerView) (statuses : List Status) (seats : List (Option Share)) : Type 0 where
   pub sound : IsSound ledger.fleet
   pub within : IsWithinLimits ledger

@@ -1,4 +1,4 @@
-//! Hosts that are marked as down, counted one by one.
+//! Counts of hosts marked as down.
 ghost use Rattle.std.specs.Prelude.{◌≡◌, ◌<◌, IfOk, OnOk, count_by, length, map};
 ghost use Rattle.domains.specs.Ids.{host_numbers};
 ghost use Rattle.domains.specs.FleetViews.{IsSound};
@@ -11,7 +11,7 @@ use fleet_states::Status;
 use group_tree::{GroupId, HostId};
 use std::alloc::{AllocError, Global};
 
-/// For each host whether it is down.
+/// Returns, for each host, whether it is down.
 pub(crate) fn mark_down(alloc: Global, statuses: &[Status]) -> Result<Vec<bool>, AllocError>
     ensures { IfOk result (λ marks. marks.items ≡ map is_down statuses.now) }
 {
@@ -22,7 +22,7 @@ pub(crate) fn mark_down(alloc: Global, statuses: &[Status]) -> Result<Vec<bool>,
     Ok(marks)
 }
 
-/// Whether the host is marked; a number past the end is not.
+/// Returns whether the host is marked; a number past the end is not.
 fn is_marked(marks: &[bool], host: HostId) -> bool
     ensures { result ≡ is_marked marks.now host.index }
 {
@@ -32,14 +32,14 @@ fn is_marked(marks: &[bool], host: HostId) -> bool
     }
 }
 
-/// How many of these hosts are marked.
+/// Returns how many of these hosts are marked.
 pub(crate) fn count_marked(marks: &[bool], hosts: &[HostId]) -> usize
     ensures { result ≡ count_by (is_marked marks.now) (host_numbers hosts.now) }
 {
     hosts.iter().filter(|host| is_marked(marks, **host)).count()
 }
 
-/// The count of a group that has a limit, and 0 for one that has none.
+/// Returns the count of a group with a limit, or 0 for one without.
 fn count_limited(fleet: &Fleet, marks: &[bool], group: GroupId) -> usize
     requires { group.index < length fleet.now.groups }
     ensures { result ≡ limited_count (record { fleet = fleet.now; down = marks.now }) group.index }
@@ -50,7 +50,7 @@ fn count_limited(fleet: &Fleet, marks: &[bool], group: GroupId) -> usize
     }
 }
 
-/// For each group that has a limit how many of its members are marked, and 0 for each other.
+/// Returns, for each group with a limit, how many of its members are marked, and 0 for each other group.
 pub(crate) fn list_counts(
     alloc: Global,
     fleet: &Fleet,

@@ -12,13 +12,13 @@ use group_tree::{GroupId, HostId};
 use std::alloc::{AllocError, Global};
 use std::marker::Model;
 
-/// Which hosts of a fleet are down. A clause sees the fleet and, for each host, whether it is down; no limited group
-/// ever has more of its members down than its limit.
+/// The hosts of a fleet that are down. Contracts see the fleet and whether each host is down. No limited group ever
+/// has more members down than its limit.
 #[derive(Drop)]
 pub struct DownLedger<'f> {
     fleet: &'f Fleet,
     marks: Vec<bool>,
-    /// How many members of each group that has a limit are down, and 0 for each other group.
+    /// How many members of each group with a limit are down, and 0 for each other group.
     counts: Vec<usize>,
 }
 
@@ -34,7 +34,7 @@ impl<'f> Model for DownLedger<'f> {
 }
 
 impl<'f> DownLedger<'f> {
-    /// The ledger of a fleet whose hosts have these statuses.
+    /// Creates the ledger of a fleet with these statuses.
     pub fn new(
         alloc: Global,
         fleet: &'f Fleet,
@@ -53,7 +53,7 @@ impl<'f> DownLedger<'f> {
         })
     }
 
-    /// The fleet, of which each host is marked, and no limited group over its limit.
+    /// Returns the fleet. Each of its hosts has a mark, and no limited group is over its limit.
     pub fn fleet(&self) -> &'f Fleet
         ensures fleet { result.now ≡ self.now.fleet }
         ensures all { length self.now.down ≡ length self.now.fleet.hosts }
@@ -62,8 +62,8 @@ impl<'f> DownLedger<'f> {
         self.fleet
     }
 
-    /// Takes a host down, unless a limited group that holds it is at its limit: then the outermost such group is told, and
-    /// nothing has changed.
+    /// Takes a host down, unless a limited group that contains it is at its limit. In that case, it returns the
+    /// outermost such group, and nothing changes.
     pub fn take(&mut self, host: HostId) -> Result<Share, Full>
         requires within { host.index < length self.old.fleet.hosts }
         requires up { is_marked self.old.down host.index ≡ false }
@@ -82,7 +82,7 @@ impl<'f> DownLedger<'f> {
         Ok(Share { host })
     }
 
-    /// The host is up from now on.
+    /// Brings the host up.
     pub fn give_back(&mut self, share: Share)
         requires { is_marked self.old.down share.host.index ≡ true }
         ensures { self.new ≡ with_mark self.old share.host.index false }
@@ -91,7 +91,7 @@ impl<'f> DownLedger<'f> {
         self.marks[share.host.index] = false;
     }
 
-    /// The host stays down, and nobody can bring it up any more.
+    /// Leaves the host down for good: without its share, nothing can bring it up.
     pub fn keep_down(&mut self, share: Share)
         requires { is_marked self.old.down share.host.index ≡ true }
         ensures { self.new ≡ self.old }
@@ -99,8 +99,8 @@ impl<'f> DownLedger<'f> {
         let _kept = share;
     }
 
-    /// How many of the group's members are down. Near-constant time for a group that has a limit; the members of another
-    /// are counted.
+    /// Returns how many of the group's members are down. Takes near-constant time for a group with a limit; otherwise
+    /// it counts the members.
     pub fn down(&self, group: GroupId) -> u32
         ensures count { result ≡ down_in self.now group.index }
         ensures within { IfSome (slice_index_or self.now.fleet.limits group.index None) (λ limit. result ≤ limit) }
@@ -111,7 +111,7 @@ impl<'f> DownLedger<'f> {
         self.count(group) as u32
     }
 
-    /// The outermost limited group that holds the host and is at its limit.
+    /// Returns the outermost limited group that contains the host and is at its limit.
     pub fn first_full(&self, host: HostId) -> Option<GroupId>
         requires { host.index < length self.now.fleet.hosts }
         ensures { MatchOption result (HasRoom self.now host.index) (λ group. IsFirstFull self.now host.index group.index) }
@@ -124,7 +124,7 @@ impl<'f> DownLedger<'f> {
         None
     }
 
-    /// Whether the group is at its limit.
+    /// Returns whether the group is at its limit.
     fn is_full(&self, group: GroupId) -> bool
         requires { group.index < length self.now.fleet.groups }
         ensures { result ≡ is_full self.now group.index }

@@ -1,4 +1,4 @@
-//! Who is down, and the leave to work on a host, which can't be copied.
+//! The hosts that are down, and the permit to work on a host, which can't be copied.
 #![tactic(auto)]
 
 mod counting;

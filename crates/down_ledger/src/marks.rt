@@ -1,4 +1,4 @@
-//! Whether hosts wait, each once, tested without memory.
+//! Checks that hosts wait, each once, without allocating.
 ghost use Rattle.std.specs.Prelude.{◌≡◌, IsTrue, MatchResult, length};
 ghost use Rattle.fleet_index.specs.NumberLists.{are_below};
 ghost use Rattle.fleet_states.specs.declared.status.Status.TheVariants.{Running};
@@ -9,7 +9,7 @@ ghost use Rattle.down_ledger.specs.Unfit.{IsFirstUnready};
 use fleet_states::{Status, status_of};
 use group_tree::HostId;
 
-/// Gives all of these hosts the status.
+/// Gives all these hosts the status.
 fn set_all(statuses: &mut [Status], hosts: &[HostId], status: Status)
     requires { IsTrue (are_below (length statuses.old) (host_numbers hosts.now)) }
     ensures { statuses.new ≡ changed (λ _. status) (host_numbers hosts.now) statuses.old }
@@ -19,8 +19,8 @@ fn set_all(statuses: &mut [Status], hosts: &[HostId], status: Status)
     }
 }
 
-/// Makes the hosts running, in the list alone. At a host that is not waiting, or stood before, it puts back those before
-/// it and tells which host it is.
+/// Marks the hosts as running, only in the list. At a host that is not waiting or is repeated, it restores the
+/// earlier ones and returns that host.
 fn mark(statuses: &mut [Status], hosts: &[HostId]) -> Result<(), HostId>
     ensures { MatchResult result
         (λ _. IsTrue (are_ready statuses.old (host_numbers hosts.now))
@@ -38,8 +38,8 @@ fn mark(statuses: &mut [Status], hosts: &[HostId]) -> Result<(), HostId>
     Ok(())
 }
 
-/// Whether the hosts wait, each once; else the first that does not. The statuses serve as marks meanwhile, so that no
-/// memory is taken.
+/// Checks that the hosts wait, each once, and otherwise returns the first that does not. It uses the statuses as
+/// marks during the check, so it does not allocate.
 pub(crate) fn test_ready(statuses: &mut [Status], hosts: &[HostId]) -> Result<(), HostId>
     ensures same { statuses.new ≡ statuses.old }
     ensures tells { MatchResult result (λ _. IsTrue (are_ready statuses.old (host_numbers hosts.now)))

@@ -1,4 +1,4 @@
-//! A fleet's hosts: what is known of each, and the shares that rest.
+//! A fleet's hosts: the status of each, and the resting shares.
 ghost use Rattle.std.specs.Prelude.{◌≡◌, ◌∷◌, [], ◌<◌, true, false, length, replicate, slice_set, slice_index_or, None, IfOk, IfErr, OnOk, OnErr, MatchOption};
 ghost use Rattle.fleet_states.specs.declared.status.Status.TheVariants.{Held, Running};
 ghost use Rattle.fleet_states.specs.Groups.{Fits, IsSafe, group_at, groups_of};
@@ -17,13 +17,13 @@ use group_tree::{GroupId, HostId};
 use std::alloc::{AllocError, Global};
 use std::marker::Model;
 
-/// What is known of each host, the ledger of those that are down, and the shares that are in nobody's hands. The ledger has
-/// just the hosts whose statuses say that they are down; a share that rests is on the seat of its own host, which is down.
+/// The status of each host, the ledger of the hosts that are down, and the shares that nothing holds. The ledger has
+/// exactly the hosts that are down by their status. A resting share is on the seat of its own host, which is down.
 #[derive(Drop)]
 pub struct Roster<'f> {
     ledger: DownLedger<'f>,
     statuses: Vec<Status>,
-    /// At its host's place each share that rests.
+    /// The resting shares, each at the index of its host.
     seats: Vec<Option<Share>>,
 }
 
@@ -40,7 +40,7 @@ impl<'f> Model for Roster<'f> {
 }
 
 impl<'f> Roster<'f> {
-    /// Nobody's share rests yet, not even that of a host which is down.
+    /// Creates a roster. No share rests yet, not even that of a host that is down.
     pub fn new(
         alloc: Global,
         fleet: &'f Fleet,
@@ -60,14 +60,14 @@ impl<'f> Roster<'f> {
         })
     }
 
-    /// A number that no host has is idle.
+    /// Returns the status of a host; a number without a host counts as idle.
     pub fn status(&self, host: HostId) -> Status
         ensures { result ≡ status_at self.now.statuses host.index }
     {
         status_of(self.statuses.as_slice(), host)
     }
 
-    /// The fleet; no group of it is over its limit.
+    /// Returns the fleet; no group of it is over its limit.
     pub fn fleet(&self) -> &'f Fleet
         ensures fleet { result.now ≡ self.now.fleet }
         ensures safe { IsSafe (groups_of self.now.fleet) self.now.statuses }
@@ -75,7 +75,7 @@ impl<'f> Roster<'f> {
         self.ledger.fleet()
     }
 
-    /// The status of each host; no group is over its limit.
+    /// Returns the status of each host; no group is over its limit.
     pub fn statuses(&self) -> &[Status]
         ensures value { result.now ≡ self.now.statuses }
         ensures all { length self.now.statuses ≡ length self.now.fleet.hosts }
@@ -84,14 +84,14 @@ impl<'f> Roster<'f> {
         self.statuses.as_slice()
     }
 
-    /// How many of the group's members are down: the number that its limit bounds.
+    /// Returns how many of the group's members are down: the number that its limit bounds.
     pub fn down(&self, group: GroupId) -> u32
         ensures { result ≡ down_count self.now.statuses (group_at (groups_of self.now.fleet) group.index).members }
     {
         self.ledger.down(group)
     }
 
-    /// The first group that has no room for one host more, of those that hold the host.
+    /// Returns the first group that contains the host and has no room for one more.
     pub fn first_full(&self, host: HostId) -> Option<GroupId>
         requires { host.index < length self.now.statuses }
         ensures { MatchOption result (Fits (groups_of self.now.fleet) self.now.statuses (host.index ∷ []))
@@ -100,7 +100,7 @@ impl<'f> Roster<'f> {
         self.ledger.first_full(host)
     }
 
-    /// Takes a waiting host down, unless a group that holds it is at its limit. Its share rests.
+    /// Takes a waiting host down, unless a group that contains it is at its limit. Its share rests.
     pub fn take(&mut self, host: HostId) -> Result<(), GroupId>
         requires { is_waiting (status_at self.old.statuses host.index) ≡ true }
         ensures ok { OnOk result (self.new ≡ with_host self.old host.index Running true) }
@@ -118,7 +118,7 @@ impl<'f> Roster<'f> {
         }
     }
 
-    /// Sets a waiting host aside: it is up, and its turn does not come.
+    /// Holds a waiting host: it is up and gets no batch in this play.
     pub fn set_aside(&mut self, host: HostId)
         requires { is_waiting (status_at self.old.statuses host.index) ≡ true }
         ensures { self.new ≡ record self.old { statuses = slice_set self.old.statuses host.index Held } }
@@ -126,7 +126,7 @@ impl<'f> Roster<'f> {
         self.statuses[host.index] = Status::Held;
     }
 
-    /// Gives the share of a host back that rests: the host is up from now on.
+    /// Gives back the resting share of a host, which brings the host up.
     pub fn give_back(&mut self, host: HostId, status: Status)
         requires rests { seated_at self.old.seated host.index ≡ true }
         requires up { is_down status ≡ false }
@@ -141,7 +141,7 @@ impl<'f> Roster<'f> {
         }
     }
 
-    /// Gives the share of a host up that rests: the host stays down.
+    /// Gives up the resting share of a host, which stays down.
     pub fn keep_down(&mut self, host: HostId)
         requires { seated_at self.old.seated host.index ≡ true }
         ensures { self.new ≡ record self.old { seated = slice_set self.old.seated host.index false } }
@@ -152,7 +152,7 @@ impl<'f> Roster<'f> {
         }
     }
 
-    /// The share of a host that rests; from now on it doesn't.
+    /// Takes the resting share of a host off its seat and returns it.
     pub fn lend(&mut self, host: HostId) -> Share
         requires { seated_at self.old.seated host.index ≡ true }
         ensures share { result.host ≡ host }
@@ -164,7 +164,7 @@ impl<'f> Roster<'f> {
         }
     }
 
-    /// A share rests from now on; its host has this status.
+    /// Puts a share on the seat of its host, which gets this status.
     pub fn rest(&mut self, share: Share, status: Status)
         requires was { is_down (status_at self.old.statuses share.host.index) ≡ true }
         requires is { is_down status ≡ true }
@@ -175,7 +175,7 @@ impl<'f> Roster<'f> {
         self.seats[host.index] = Some(share);
     }
 
-    /// The status of each host. The shares that rest are gone: whoever is down stays down.
+    /// Returns the status of each host. The resting shares are gone: hosts that are down stay down.
     pub fn into_statuses(self) -> Vec<Status>
         ensures { result.items ≡ self.entry.statuses }
     {
@@ -188,7 +188,7 @@ impl<'f> Roster<'f> {
     }
 }
 
-/// So many seats, on each of which no share rests.
+/// Creates this many empty seats.
 fn empty_seats(alloc: Global, count: usize) -> Result<Vec<Option<Share>>, AllocError>
     ensures { IfOk result (λ seats. seats.items ≡ replicate count None) }
 {

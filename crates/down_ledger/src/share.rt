@@ -1,10 +1,10 @@
-//! The leave to work on a host.
+//! The permit to work on a host.
 ghost use Rattle.std.specs.Prelude.{◌≡◌};
 
 use group_tree::{GroupId, HostId};
 
-/// The leave to work on one host while it is down. There is one for each host that a ledger took down, so it can't be
-/// copied, and only the ledger makes it. Whoever drops it leaves its host down: nobody is left to bring it up.
+/// The permit to work on one host while it is down. There is one for each host that a ledger took down, so it can't
+/// be copied, and only the ledger creates it. If it is dropped, its host stays down, since nothing can bring it up.
 #[derive(Debug, Drop)]
 pub struct Share {
     pub(crate) host: HostId,
@@ -18,14 +18,14 @@ impl Share {
     }
 }
 
-/// A group is at its limit: no more of its hosts may go down.
+/// A group is at its limit: no more of its hosts can go down.
 #[derive(Clone, Copy, Debug, PartialEq, Eq)]
 pub struct Full {
     pub group: GroupId,
 }
 
 impl Full {
-    /// The number of the rule that is broken.
+    /// Returns the error number.
     pub fn number(&self) -> u16
         ensures { result ≡ 401 }
     {

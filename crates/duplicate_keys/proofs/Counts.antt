@@ -1,4 +1,4 @@
--- How often names stand in a list that grows by one.
+-- How often names appear in a list that grows by one.
 use Rattle.std.proofs.Common.{◌≡◌, ℕ, suc, ◌+◌, ◌<◌, Bool, true, false, cond, not, ◌&&◌, ◌||◌, nat_lt, if◌then◌else◌, Bor, List, [], ◌∷◌, ◌++◌, length, take, get_or, filter, refl, sym, ap, ◌∙◌, append-nil, length-append, arith}
 use Rattle.std.specs.List.{list_any}
 use Rattle.std.specs.Str.{bytes_eq}
@@ -31,7 +31,7 @@ is_other name other = not (bytes_eq name other)
 abbrev with_name : List Name → Name → List Name
 with_name = insert_key bytes_eq
 
--- a name is still there when another one is taken out
+-- a name is still there after another one is removed
 still_there : (gone name : Name) (names : List Name) → bytes_eq gone name ≡ false → list_any (bytes_eq name) (filter (is_other gone) names) ≡ list_any (bytes_eq name) names
 still_there gone name [] differ = refl
 still_there gone name (first ∷ names) differ = by (bytes_eq gone first) refl (still_there gone name names differ)
@@ -69,7 +69,7 @@ pushed first name names false there is stands =
         ap (λ (l : List Name). first ∷ l)
         (filter-append (is_other first) names (name ∷ []) ∙ ap (λ b. filter (is_other first) names ++ cond (not b) (name ∷ []) []) is)
 
--- each name once, of one name more
+-- each name once, with one more name
 pub once_more : (names : List Name) (name : Name) → once_each (names ++ name ∷ []) ≡ with_name (once_each names) name
 once_more [] name = refl
 once_more (first ∷ names) name =
@@ -79,7 +79,7 @@ once_more (first ∷ names) name =
 above_none : (often : ℕ) → true ≡ nat_lt 0 (suc often)
 above_none often = grind (arith, common_steps)
 
--- a name is among those exactly where it stands at all
+-- a name is among those exactly if it appears at all
 pub is_there : (name : Name) (names : List Name) → list_any (bytes_eq name) (once_each names) ≡ nat_lt 0 (how_often name names)
 is_there name [] = refl
 is_there name (first ∷ names) = by (bytes_eq name first) refl (is_there name names)
@@ -116,7 +116,7 @@ or_false false = refl
 none_more : (often : ℕ) → nat_lt 1 often ≡ nat_lt 1 (often + 0)
 none_more often = ap (nat_lt 1) (omega arith)
 
--- those that stand more than once, of one name more
+-- those that appear more than once, with one more name
 pub twice_more : (names : List Name) (other name : Name)
     → (nat_lt 1 (how_often name names) || (nat_lt 0 (how_often other names) && bytes_eq name other)) ≡ nat_lt 1 (how_often name (names ++ other ∷ []))
 twice_more names other name = by (nat_lt 0 (how_often other names)) (bytes_eq name other) refl refl
@@ -135,7 +135,7 @@ twice_more names other name = by (nat_lt 0 (how_often other names)) (bytes_eq na
     by false false stands is =
         or_false (nat_lt 1 (how_often name names)) ∙ none_more (how_often name names) ∙ sym (ap (nat_lt 1) (how_often_more names name other false is))
 
--- The same of names that are lent.
+-- Likewise for borrowed names.
 
 abbrev pub stands_in : Name → List (Bor Name) → Bool
 stands_in name lent = list_any (λ (key : Bor Name). bytes_eq name key.now) lent

@@ -1,4 +1,4 @@
--- Where no object has a key twice nothing is repeated.
+-- If no object has a key twice, there are no duplicates.
 use Rattle.std.proofs.Common.{◌≡◌, ◌≢◌, ℕ, suc, ◌+◌, ◌<◌, Bool, true, false, cond, nat_lt, List, [], ◌∷◌, ◌++◌, length, map, get_or, filter, Option, Some, refl, sym, ap, ◌∙◌, arith}
 use Rattle.std.specs.Fmt.{decimal}
 use Rattle.std.specs.Str.{bytes_eq}
@@ -53,6 +53,6 @@ mutual
   none_in_members no_members unique = refl
   none_in_members (member key value members) unique = λ i. below (cut key) (none_in_value value unique.0 i) ++ none_in_members members unique.1 i
 
--- of a text that was read
+-- likewise for a parsed text
 pub none_in_read : (read : Option Json) (value : Json) → read ≡ Some value → HasUniqueKeys value → repeated_in_any read ≡ []
 none_in_read read value is unique = ap repeated_in_any is ∙ none_in_value value unique

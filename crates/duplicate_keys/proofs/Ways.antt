@@ -1,4 +1,4 @@
--- Paths, one level further down, and what is told of a text.
+-- Paths one level further down, and the paths reported of a text.
 use Rattle.std.proofs.Common.{arith, length, length-append, ◌<◌, Vec, ◌≤◌, nat_le, ◌≡◌, ℕ, suc, Bool, true, false, List, [], ◌∷◌, ◌++◌, map, take, if◌then◌else◌, Option, Some, refl, sym, ap, ◌∙◌, append_assoc}
 use Rattle.std.specs.Str.{IsUtf8, is_utf8}
 use Rattle.std.proofs.lemmas.List.{map-append, take_all, take-append-le}
@@ -30,20 +30,20 @@ pub both_below : (parts : List Part) (told here rest : List Path) → (told ++ b
 both_below parts told here rest =
     append_assoc told (below_all parts here) (below_all parts rest) ∙ ap (λ (l : List Path). told ++ l) (sym (map-append (λ (path : Path). front_of parts ++ path) here rest))
 
--- what is told of what stands here, and then of the rest
+-- what is reported here, and then of the rest
 pub first_of_both : (parts : List Part) (here rest told more : List Path) → more ≡ take 100 (told ++ below_all parts here)
     → take 100 (more ++ below_all parts rest) ≡ take 100 (told ++ below_all parts (here ++ rest))
 first_of_both parts here rest told more is =
     ap (λ (l : List Path). take 100 (l ++ below_all parts rest)) is ∙ first_again 100 (told ++ below_all parts here) (below_all parts rest)
     ∙ ap (take 100) (both_below parts told here rest)
 
--- what is told of one element more
+-- what is reported of one more element
 pub one_more : (parts : List Part) (part : Part) (here rest told more whole : List Path) → more ≡ take 100 (told ++ below_all (parts ++ part ∷ []) here)
     → take 100 (told ++ below_all parts (below (text_of part) here ++ rest)) ≡ whole → take 100 (more ++ below_all parts rest) ≡ whole
 one_more parts part here rest told more whole is was =
     first_of_both parts (below (text_of part) here) rest told more (is ∙ ap (λ (l : List Path). take 100 (told ++ l)) (one_level parts part here)) ∙ was
 
--- an object's own, and those within its members
+-- an object's own duplicates, and those within its members
 pub in_object : (parts : List Part) (members : Members) (value : Json) (told own : List Path) → own ≡ take 100 (told ++ below_all parts (map cut (repeated (keys members)))) → value ≡ object members
     → take 100 (own ++ below_all parts (repeated_in_members members)) ≡ take 100 (told ++ below_all parts (repeated_in_value value))
 in_object parts members value told own is seen =
@@ -74,15 +74,15 @@ as_many (path ∷ told) = ap suc (as_many told)
 few_told : (told : Told) → length (paths_told told) ≤ 100
 few_told told = let many = as_many told.paths.items in omega (arith, many, told.few)
 
--- where nothing is left
+-- if nothing remains
 pub none_left : (told : Told) (rest whole : List Path) → rest ≡ [] → take 100 (paths_told told ++ rest) ≡ whole → paths_told told ≡ whole
 none_left told rest whole none is = all_first 100 (paths_told told) (few_told told) ∙ ap (λ (l : List Path). take 100 (paths_told told ++ l)) (sym none) ∙ is
 
--- where there is no room
+-- if there is no room
 pub no_room : (told : Told) (rest whole : List Path) → nat_le 100 (length (paths_told told)) ≡ true → take 100 (paths_told told ++ rest) ≡ whole → paths_told told ≡ whole
 no_room told rest whole is_full is = full 100 (paths_told told) rest (few_told told) is_full ∙ is
 
--- one path more, where there is room
+-- one more path, if there is room
 pub one_pushed : {Y : Type 0} (told : List (Vec ℕ Y)) (path : Vec ℕ Y) → length told < 100 → paths_of (told ++ path ∷ []) ≡ take 100 (paths_of told ++ path.items ∷ [])
 one_pushed told path less =
     let many = as_many told in
@@ -90,14 +90,14 @@ one_pushed told path less =
     let fits : length (paths_of told ++ path.items ∷ []) ≤ 100 = omega (arith, many, longer, less) in
     map-append (λ (path : Vec ℕ _). path.items) told (path ∷ []) ∙ sym (take_all 100 (paths_of told ++ path.items ∷ []) fits)
 
--- one more, where there is none
+-- one more path, if there is no room
 pub none_pushed : (told : Told) (path : Path) → 100 ≤ length told.paths.items → paths_told told ≡ take 100 (paths_told told ++ path ∷ [])
 none_pushed told path long =
     let many = as_many told.paths.items in
     let whole : 100 ≤ length (paths_told told) = omega (arith, many, long) in
     sym (take-append-le 100 (paths_told told) (path ∷ []) whole ∙ take_all 100 (paths_told told) (few_told told))
 
--- what is told of one key more, and of those behind it
+-- what is reported of one more key, and of those after it
 pub one_key : (parts : List Part) (key : Name) (rest told more whole : List Path) → more ≡ take 100 (told ++ (front_of parts ++ cut key) ∷ [])
     → take 100 (told ++ below_all parts (cut key ∷ rest)) ≡ whole → take 100 (more ++ below_all parts rest) ≡ whole
 one_key parts key rest told more whole is was =

@@ -1,4 +1,4 @@
--- Words of the walk.
+-- Definitions for the steps of the search.
 use Rattle.std.specs.Prelude.{ℕ, Bool, List, [], ◌∷◌, ◌++◌, map, Vec}
 use Rattle.std.specs.Borrow.{Bor}
 use Rattle.std.specs.Fmt.{decimal}
@@ -13,7 +13,7 @@ use Rattle.duplicate_keys.specs.declared.path.Part.TheVariants.{Key, Index}
 abbrev pub names_of : List (Bor Name) → List Name
 names_of lent = map (λ (name : Bor Name). name.now) lent
 
--- the set has the name
+-- the set contains the name
 abbrev pub has : {S : Type 0} → IndexSet (Bor Name) S → Name → Bool
 has set name = list_any (λ (key : Bor Name). bytes_eq name key.now) set.keys
 
@@ -27,11 +27,11 @@ abbrev pub text_of : Part → Name
 text_of (Key key) = cut key.now
 text_of (Index place) = decimal place
 
--- what stands in a path in front of what these parts lead to
+-- the prefix of a path below these parts
 abbrev pub front_of : List Part → Path
 front_of [] = []
 front_of (part ∷ parts) = text_of part ++ 47 ∷ front_of parts
 
--- the paths, as they are told from where these parts begin
+-- the paths as reported from where these parts start
 abbrev pub below_all : List Part → List Path → List Path
 below_all above paths = map (λ path. front_of above ++ path) paths

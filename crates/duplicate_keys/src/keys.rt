@@ -1,4 +1,4 @@
-//! The keys of one object that stand in it more than once.
+//! The keys that appear more than once in one object.
 ghost use Rattle.std.specs.Prelude.{◌≡◌, ◌&&◌, ◌||◌, IfOk, OnOk, filter};
 ghost use Rattle.std.specs.Str.{bytes_eq};
 ghost use Rattle.indexmap.specs.IndexSet.{insert_key};
@@ -11,7 +11,7 @@ use indexmap::IndexSet;
 use json::Value;
 use std::alloc::{AllocError, Global};
 
-/// Those that stand more than once among the members, each once, in the order in which they first stand.
+/// Returns the keys that appear more than once among the members, each once, in order of first appearance.
 pub(crate) fn list_twice<'a>(
     alloc: Global,
     members: &[(&'a str, Value<'a>)],
@@ -26,7 +26,7 @@ pub(crate) fn list_twice<'a>(
     keep_those(alloc, seen.as_slice(), &again)
 }
 
-/// Puts the key into the first set, and where it is there already into the second.
+/// Adds the key to the first set, and to the second if the first already contains it.
 fn note<'a>(
     key: &'a str,
     seen: &mut IndexSet<&'a str>,
@@ -41,7 +41,7 @@ fn note<'a>(
     Ok(())
 }
 
-/// The keys that are in the set.
+/// Returns the keys that are in the set.
 fn keep_those<'a>(
     alloc: Global,
     keys: &[&'a str],

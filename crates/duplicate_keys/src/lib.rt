@@ -1,4 +1,4 @@
-//! The keys that stand more than once in one object of a JSON text.
+//! The keys that appear more than once in one object of a JSON text.
 #![tactic(auto)]
 
 mod keys;

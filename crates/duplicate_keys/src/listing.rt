@@ -1,4 +1,4 @@
-//! From a JSON text to the paths of its repeated keys.
+//! From a JSON text to the paths of its duplicate keys.
 ghost use Rattle.std.specs.Prelude.{◌≡◌, [], IfOk, map, take, true};
 ghost use Rattle.json.specs.Json.{document};
 ghost use Rattle.duplicate_keys.specs.Inside.{paths_of};
@@ -9,12 +9,13 @@ use crate::walk::push_in_value;
 use json::{Error, Scratch, Value};
 use std::alloc::{AllocError, Global};
 
-/// The paths of the keys that stand more than once in one object of a JSON text: for an object first its own, each
-/// once, in the order in which they first stand, and then those within its members, in their order, also within one
-/// that a later member of its key hides. A path is the keys and the places in arrays (from 0) that lead there, and the
-/// repeated key last, joined by `/`. Keys are compared and told without their escapes; of one of over 255 bytes `..`
-/// stands for what is behind these. The first hundred are told, as bytes, since a cut may part a character. A text
-/// that is no JSON has none. It fails for want of memory alone.
+/// Returns the paths of the keys that appear more than once in one object of a JSON text. An object's own keys come
+/// first, each once, in order of first appearance. Those within its members follow, in order of the members. Members
+/// that a later member of the same key hides are searched too. A path is the keys and array indexes (from 0) that
+/// lead to the object, then the duplicate key, joined by `/`. Keys are compared and reported without their escapes.
+/// In a key of over 255 bytes, `..` replaces what follows these. The result has at most the first hundred paths, as
+/// bytes, since truncation can split a character. A text that is not valid JSON has none. Fails only if an allocation
+/// fails.
 pub fn list_repeated(alloc: Global, text: &[u8]) -> Result<Vec<Vec<u8>>, AllocError>
     ensures { IfOk result (λ paths. map (λ path. path.items) paths.items ≡ told_in text.now) }
 {
@@ -27,14 +28,14 @@ pub fn list_repeated(alloc: Global, text: &[u8]) -> Result<Vec<Vec<u8>>, AllocEr
 fn list_in_text(alloc: Global, text: &str) -> Result<Vec<Vec<u8>>, AllocError>
     ensures { IfOk result (λ paths. paths_of paths.items ≡ take 100 (repeated_in_any (document text.now))) }
 {
-    // Nearly every text has none, and to see that costs less than the walk.
+    // Nearly every text has none, and checking that costs less than the search.
     if has_none(alloc, text)? {
         return Ok(Vec::new(alloc));
     }
     list_by_walk(alloc, text)
 }
 
-/// Whether nothing is repeated in the text, or it is no JSON.
+/// Returns whether the text has no duplicate key, or is not valid JSON.
 fn has_none(alloc: Global, text: &str) -> Result<bool, AllocError>
     ensures { IfOk result (λ none. none ≡ true → repeated_in_any (document text.now) ≡ []) }
 {

@@ -1,4 +1,4 @@
-//! The way from the top value down, and the paths that are told.
+//! Positions below the top value, and the reported paths.
 ghost use Rattle.std.specs.Prelude.{◌≡◌, ◌++◌, ◌∷◌, [], IfOk, OnOk};
 ghost use Rattle.duplicate_keys.specs.Inside.{front_of, text_of};
 ghost use Rattle.duplicate_keys.specs.Repeats.{cut};
@@ -6,14 +6,14 @@ ghost use Rattle.duplicate_keys.specs.Repeats.{cut};
 use itoa::Buffer;
 use std::alloc::{AllocError, Global};
 
-// How much of a key is shown, in bytes: a name of a group or a host is never cut.
+// The number of bytes shown of a key: enough for any name of a group or a host.
 const SHOWN: usize = 255;
 
-/// What leads one level down.
+/// A step one level down.
 #[derive(Clone, Copy, Drop)]
 pub(crate) enum Part<'a> {
     Key(&'a str),
-    /// A place in an array, from 0.
+    /// An index in an array, from 0.
     Index(usize),
 }
 
@@ -36,7 +36,7 @@ fn add_part(path: &mut Vec<u8>, part: Part<'_>) -> Result<(), AllocError>
     }
 }
 
-/// The path of a key of the object to which these parts lead.
+/// Returns the path of a key of the object at this position.
 pub(crate) fn path_of(alloc: Global, above: &[Part<'_>], key: &str) -> Result<Vec<u8>, AllocError>
     ensures { IfOk result (λ path. path.items ≡ front_of above.now ++ cut key.now) }
 {

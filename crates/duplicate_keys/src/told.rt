@@ -1,12 +1,12 @@
-//! The paths that are told.
+//! The reported paths.
 ghost use Rattle.std.specs.Prelude.{◌≤◌, length};
 
 use std::alloc::{AllocError, Global};
 
-// A text may have a key of half its bytes, and thousands of repeated keys below it.
+// A text can have a key of half its bytes, with thousands of duplicate keys below it.
 const MOST: usize = 100;
 
-/// The bytes of some paths, of a hundred at most.
+/// At most a hundred paths, as bytes.
 #[derive(Drop)]
 pub(crate) struct Told {
     paths: Vec<Vec<u8>>,
@@ -31,7 +31,7 @@ impl Told {
         self.paths.len() >= MOST
     }
 
-    /// Adds the path, where there is room.
+    /// Adds the path if there is room.
     pub(crate) fn add(&mut self, path: Vec<u8>) -> Result<(), AllocError>
         ensures { OnOk result (paths_told self.new ≡ take 100 (paths_told self.old ++ path.items ∷ [])) }
     {

@@ -11,7 +11,7 @@ use crate::told::Told;
 use json::Value;
 use std::alloc::{AllocError, Global};
 
-/// Tells what is repeated in the value, as far as there is room. The parts that lead to it are as before afterwards.
+/// Reports the duplicate keys in the value, as far as there is room. Leaves `above` as it was.
 #[cycle(repeats)]
 pub(crate) fn push_in_value<'a>(
     alloc: Global,
@@ -73,7 +73,7 @@ fn push_in_members<'a>(
     Ok(())
 }
 
-/// The same of a value to which one part more leads.
+/// Reports the duplicate keys in a value one step further down.
 #[cycle(repeats)]
 fn push_below<'a>(
     alloc: Global,
@@ -94,7 +94,7 @@ fn push_below<'a>(
     Ok(())
 }
 
-/// Tells the repeated keys of the object itself.
+/// Reports the duplicate keys of the object itself.
 fn push_keys<'a>(
     alloc: Global,
     members: &[(&'a str, Value<'a>)],

@@ -1,4 +1,4 @@
--- A batch that begins, and one that is left.
+-- A batch that starts, and one that is left.
 use Rattle.std.proofs.Common.{◌≡◌, ℕ, zero, suc, ◌<◌, ◌≤◌, length, arith, true, false, Option, List, [], replicate, drop, sym, ap, ◌∙◌, refl, subst, inl, inr, ◌⊎◌}
 use Rattle.std.specs.List.{slice_get}
 use Rattle.std.proofs.lemmas.Bool.{and_right, cases_lt}
@@ -30,7 +30,7 @@ drop_none : (n : ℕ) → drop n no_hosts ≡ no_hosts
 drop_none zero = refl
 drop_none (suc n) = refl
 
--- of a state in which no batch is at a step nobody is awaited
+-- if no batch is at a step, no host is awaited
 idle_in : (roll : Roll) (state : State) (host : ℕ) → is_awaited_by roll.play state.phase (state.rows host) ≡ false → is_awaited_in roll state host ≡ false
 idle_in roll state host idle =
     and_right (has_number host state.batch) (is_awaited_by roll.play state.phase (state.rows host)) idle

@@ -1,4 +1,4 @@
--- What an event leaves as it was, and what holds of the open batch at every front.
+-- What an event leaves as it was, and properties of the open batch after every prefix.
 use Rattle.std.proofs.Common.{◌≡◌, ℕ, zero, suc, ◌≤◌, ◌<◌, Bool, true, false, cond, List, [], ◌∷◌, length, take, sym, ap, ◌∙◌, refl, inl, inr, ◌⊎◌}
 use Rattle.std.proofs.lemmas.Bool.{both_ways, cases_lt, eq-eqb}
 use Rattle.fleet_index.specs.NumberLists.{has_number}

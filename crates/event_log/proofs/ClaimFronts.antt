@@ -1,4 +1,4 @@
--- At no front more claims are out than forks.
+-- After every prefix, the number of outstanding claims is at most the number of forks.
 use Rattle.std.proofs.Common.{ℕ, zero, suc, ◌≤◌, List, [], ◌∷◌, length, take, arith}
 use Rattle.event_log.specs.Rolls.{Roll}
 use Rattle.event_log.specs.Events.{Event, set_aside, opened, claimed, reported, passed, closed}

@@ -28,7 +28,7 @@ use Rattle.event_log.proofs.ListLemmas.{find_first, has_passed, line_behind, fil
 use Rattle.event_log.proofs.LineLemmas.{line_below, line_goes_on}
 use Rattle.event_log.proofs.StateLemmas.{and_apart, get_set, get_set_other, got_at, some_same}
 
--- what is changed where a host is taken
+-- the changes if a host is taken
 pub record Takes (old new : BatchWork) (host : ℕ) (asked : StepRequest) (before after : Summary) : Type 0 where
   pub play : new.play.now ≡ old.play.now
   pub stage : new.stage ≡ old.stage
@@ -41,7 +41,7 @@ pub record Takes (old new : BatchWork) (host : ℕ) (asked : StepRequest) (befor
   pub line : host_numbers (drop old.next old.line.items) ≡ host ∷ host_numbers (drop new.next new.line.items)
   pub out : new.out ≡ suc old.out
 
--- the summary says the same of all rows
+-- the summary states the same about all rows
 abbrev pub Keeps : Summary → Summary → Type 0
 Keeps before after =
     (play : Play) (known : Known) (entries : List Entry) → Shows play known entries before → Shows play known entries after
@@ -177,7 +177,7 @@ module _ (roll : Roll) (state : State) (old new : BatchWork) (host step : ℕ) (
           count = takes.out ∙ ap suc work.count;
         }
 
--- what is changed where a host was asked, and memory was refused behind that
+-- the changes if a request was computed, and then an allocation failed
 pub record Asks (old new : BatchWork) (host : ℕ) (before after : Summary) : Type 0 where
   pub play : new.play.now ≡ old.play.now
   pub stage : new.stage ≡ old.stage
@@ -246,7 +246,7 @@ work_asked roll state old new host before after work asks keeps =
             (get_set_other old.summaries.items host after other summary apart
             (sym (ap (λ (l : List Summary). slice_get l other) asks.summaries) ∙ got)) is named
 
--- the host that is next in line was asked
+-- the request of the next host in the queue was computed
 pub asks_of : (old new : BatchWork) (host : HostId) (before after : Summary)
     → (old.next < length old.line.items) × (slice_get old.line.items old.next ≡ Some host) → before ≡ get_or old.summaries.items host.index before
     → new.play.now ≡ old.play.now → new.stage ≡ old.stage → new.batch.items ≡ old.batch.items
@@ -270,7 +270,7 @@ asks_of old new host before after at value play stage batch summaries turns line
           ∙ or_left (nat_eq host.index host.index) (has_number host.index behind) (eq-eqb host.index host.index refl);
     }
 
--- and taken
+-- and the host was taken
 pub takes_of : (old new : BatchWork) (host : HostId) (asked : StepRequest) (before after : Summary)
     → (old.next < length old.line.items) × (slice_get old.line.items old.next ≡ Some host) → before ≡ get_or old.summaries.items host.index before
     → new.play.now ≡ old.play.now → new.stage ≡ old.stage → new.batch.items ≡ old.batch.items

@@ -1,4 +1,4 @@
--- A batch of a legal log ends as its hosts do by themselves.
+-- A batch of a legal log ends as its hosts do on their own.
 use Rattle.std.proofs.Common.{◌≡◌, ℕ, suc, ◌-◌, ◌<◌, Bool, true, false, cond, ◌||◌, Option, Some, None, is_some, List, [], ◌∷◌}
 use Rattle.std.proofs.Common.{length, refl, sym, ap, ◌∙◌, subst, arith}
 use Rattle.std.specs.Prelude.{if◌then◌else◌}
@@ -27,7 +27,7 @@ use Rattle.event_log.proofs.WorkLemmas.{AtWork, start_at_work, status_in_batch}
 use Rattle.event_log.proofs.ColumnSteps.{Ends, OnTrack, rows_of, start_on_track, along_log}
 
 module _ (roll : Roll) (columns : Columns) where
-  -- what becomes of a host of a batch that ended so
+  -- the fate of a host of a batch with this end
   abbrev FailsUpTo : List Entry → Option ℕ → Option ℕ → Type 0
   FailsUpTo rows halt failing =
       (at : ℕ) → halt ≡ Some at → has_failed rows ≡ is_failed_by failing at
@@ -56,7 +56,7 @@ module _ (roll : Roll) (columns : Columns) where
   halt_within batch at is =
       (subst (IsLeastHalt (fails_by roll columns) batch roll.play.max_fail (length roll.play.steps.items)) is (least (fails_by roll columns) batch roll.play.max_fail (length roll.play.steps.items))).0
 
-  -- what the host is once the batch is closed from this phase
+  -- the status of the host after the batch is closed from this phase
   abbrev IsClosedAs : State → ℕ → Option ℕ → Phase → Type 0
   IsClosedAs state host halt phase =
       status_at (closed_state phase state).statuses host ≡ status_after halt (fails_by roll columns host)
@@ -81,7 +81,7 @@ module _ (roll : Roll) (columns : Columns) where
           let within : at < length roll.play.steps.items = halt_within state.batch at (sym is.0 ∙ e) in
           ap has_failed own ∙ sym (failed_by roll.play (roll.known host) (columns host) (length roll.play.steps.items) at within)
 
-  -- as many have failed as fail by themselves
+  -- as many hosts have failed as fail on their own
   some_failed : (rows : List Entry) → has_failed rows ≡ is_some (failing_step rows)
   some_failed [] = refl
   some_failed (row ∷ rows) = by_case (is_failed row.finding.judged) (some_failed rows)
@@ -118,12 +118,12 @@ ends_by_columns roll log columns halt legal told at =
     going : state.phase ≡ between → ⊥
     going is = let both : ended halt ≡ between = sym at ∙ is in cc
 
-    -- what becomes of a host by its own failing step
+    -- the status of a host by its own failing step
     choice : ℕ → Bool → Status
     choice host b =
         cond b (status_after halt (fails_by roll columns host)) (status_at state.opening host)
 
-    -- the hosts of the batch by their failing steps, and the others as at the opening
+    -- the hosts of the batch by their failing steps, and the others as at its opening
     one : (host : ℕ) (b : Bool) → has_number host state.batch ≡ b → status_at (closed_state (ended halt) state).statuses host ≡ choice host b
     one host true here = closed_status roll columns state halt host kept.0 ended_so here
     one host false outside =

@@ -1,4 +1,4 @@
--- Where a track fails, against its rows of the first steps.
+-- Where a track fails, compared with its rows of the first steps.
 use Rattle.std.proofs.Common.{◌≡◌, ℕ, zero, suc, ◌+◌, ◌<◌, nat_eq, Bool, true, false, ◌&&◌, ◌||◌, Option, Some, None, List, [], ◌∷◌, ◌++◌, refl, sym, ap, ◌∙◌, subst, arith, inl, inr, ◌⊎◌}
 use Rattle.std.proofs.Common.{add-suc, add-zero}
 use Rattle.std.specs.Prelude.{All, if◌then◌else◌}
@@ -15,7 +15,7 @@ use Rattle.host_track.proofs.TrackLaws.{adds_none, rise}
 use Rattle.fleet_states.specs.Batches.{is_failed_by}
 use Rattle.event_log.specs.States.{has_row, is_awaited}
 
--- of rows of the steps up to one, the failing step is one of these exactly where a row has failed
+-- among rows of the steps up to one, there is a failing step exactly if a row has failed
 failed_up_to : (rows : List Entry) (step : ℕ) → All (λ (entry : Entry). entry.step < suc step) rows → is_failed_by (failing_step rows) step ≡ has_failed rows
 failed_up_to [] step below = refl
 failed_up_to (row ∷ rows) step below =
@@ -33,7 +33,7 @@ later_step : (b : Bool) (row step : ℕ) → step < row → is_failed_by (if b t
 later_step true row step later = lt-leb row step later
 later_step false row step later = refl
 
--- one more row of a later step says nothing of this one
+-- one more row of a later step does not matter for this one
 failed_before : (rows : List Entry) (row : Entry) (step : ℕ) → step < row.step → is_failed_by (failing_step (rows ++ row ∷ [])) step ≡ is_failed_by (failing_step rows) step
 failed_before [] row step later = later_step (is_failed row.finding.judged) row.step step later
 failed_before (first ∷ rows) row step later =
@@ -94,7 +94,7 @@ module _ (play : Play) (known : Known) (column : Column) where
       not_due : (rows : List Entry) (step : ℕ) → has_failed rows ≡ true → is_due play rows step ≡ false
       not_due rows step failed = rw failed refl
 
-  -- no row of a step that is to come
+  -- no row of a later step
   pub no_row : (step : ℕ) → has_row (rows_of step) step ≡ false
   no_row step = none (rows_of step) (below step)
     where
@@ -112,7 +112,7 @@ module _ (play : Play) (known : Known) (column : Column) where
       and_true true = refl
       and_true false = refl
 
-  -- once through the step, nothing of it is awaited
+  -- after the step, nothing of it is awaited
   pub not_awaited : (step : ℕ) (task : Step) → step_at play step ≡ Some task → is_awaited play (rows_of (suc step)) step ≡ false
   unfolding track
   not_awaited step task is = by_case (is_due play (rows_of step) step) refl (step_at play step) is
@@ -142,7 +142,7 @@ module _ (play : Play) (known : Known) (column : Column) where
       by_case true due None is = absurd (cc)
       by_case false due at is = none due
 
-  -- the next rows, where the step is due and where it is not
+  -- the next rows, if the step is due and if it is not
   pub due_rows : (step : ℕ) → is_due play (rows_of step) step ≡ true → rows_of (suc step) ≡ rows_of step ++ row_at (known_after play known (rows_of step)) (step_at play step) step (column step)
   unfolding track
   due_rows step due = rw due refl

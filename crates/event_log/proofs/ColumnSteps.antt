@@ -1,4 +1,4 @@
--- A batch of a legal log goes on as its hosts do by themselves.
+-- A batch of a legal log continues as its hosts do on their own.
 use Rattle.std.proofs.Common.{◌≡◌, ℕ, suc, ◌+◌, ◌-◌, ◌≤◌, ◌<◌, nat_lt, Bool, true, false, Option, Some, None, List, [], ◌∷◌, ◌++◌}
 use Rattle.std.proofs.Common.{length, refl, sym, ap, ◌∙◌, subst, arith, inl, inr, ◌⊎◌}
 use Rattle.std.specs.Prelude.{if◌then◌else◌}
@@ -35,16 +35,16 @@ module _ (roll : Roll) (columns : Columns) where
   abbrev pub halts : List ℕ → ℕ → Bool
   halts batch step = halts_at (fails_by roll columns) batch roll.play.max_fail step
 
-  -- the batch has halted at the right step, if at one, and each of its hosts has the rows up to there
+  -- the batch has halted at the right step, if at all, and each of its hosts has the rows up to there
   abbrev pub Ends : State → Option ℕ → Type 0
   Ends state halt =
       (halt ≡ halt_by roll columns state.batch) × ((host : ℕ) → has_number host state.batch ≡ true → state.rows host ≡ rows_of host (steps_until roll halt))
 
-  -- the rows of a host before a step or through it
+  -- the rows of a host before a step or after it
   abbrev pub IsAt : List Entry → ℕ → ℕ → Type 0
   IsAt rows host step = (rows ≡ rows_of host step) ⊎ (rows ≡ rows_of host (suc step))
 
-  -- each host of the batch is through the step
+  -- each host of the batch has finished the step
   abbrev pub Through : State → ℕ → Type 0
   Through state step =
       (host : ℕ) → has_number host state.batch ≡ true → state.rows host ≡ rows_of host (suc step)
@@ -55,7 +55,7 @@ module _ (roll : Roll) (columns : Columns) where
   abbrev pub NobodyIsWaitedFor : State → ℕ → Type 0
   NobodyIsWaitedFor state step = list_any (is_waited_for state step) state.batch ≡ false
 
-  -- before the step nothing halts the batch, and each of its hosts is before the step or through it
+  -- before the step nothing halts the batch, and each of its hosts is before the step or has finished it
   pub record OnTrack (state : State) : Type 0 where
     pub rows : (host step : ℕ) → has_number host state.batch ≡ true → state.phase ≡ working step → IsAt (state.rows host) host step
     pub inside : (step : ℕ) → state.phase ≡ working step → step < steps
@@ -74,7 +74,7 @@ module _ (roll : Roll) (columns : Columns) where
         ends = λ halt at. absurd (cc);
       }
 
-  -- the least halt is the only one
+  -- the first halt is the only one
   first_halt : (batch : List ℕ) (at : ℕ) → at < steps → halts batch at ≡ true → ((earlier : ℕ) → earlier < at → halts batch earlier ≡ false) → halt_by roll columns batch ≡ Some at
   first_halt batch at within halted none = by_case (halt_by roll columns batch) (least (fails_by roll columns) batch roll.play.max_fail steps)
     where
@@ -97,7 +97,7 @@ module _ (roll : Roll) (columns : Columns) where
       by_case None never = refl
       by_case (Some other) is = absurd (both_ways true (sym (is.1) ∙ none other is.0) refl)
 
-  -- a step that every host of the batch is through
+  -- a step that every host of the batch has finished
   module _ (state : State) (step : ℕ) (within : step < steps) (through : Through state step) where
     failed_alike : (host : ℕ) → has_number host state.batch ≡ true → has_failed (state.rows host) ≡ is_failed_by (fails_by roll columns host) step
     failed_alike host here =
@@ -110,7 +110,7 @@ module _ (roll : Roll) (columns : Columns) where
     past_alike : is_past roll.play.max_fail (failures state) (length state.batch) ≡ halts state.batch step
     past_alike = ap (λ n. is_past roll.play.max_fail n (length state.batch)) counts_alike
 
-    -- where all have failed none goes on, and no later step halts the batch if this one doesn't
+    -- if all hosts have failed, none continues, and no later step halts the batch if this one does not
     module _ (dead : is_dead state ≡ true) where
       failed_here : (host : ℕ) → has_number host state.batch ≡ true → has_failed (rows_of host (suc step)) ≡ true
       failed_here host here =
@@ -142,7 +142,7 @@ module _ (roll : Roll) (columns : Columns) where
           let number : suc (steps - 1) ≡ steps = omega (arith, within) in
           sym later ∙ ap (rows_of host) number
 
-    -- the phase that the batch passes to
+    -- the next phase of the batch
     module _ (before : (earlier : ℕ) → earlier < step → halts state.batch earlier ≡ false) where
       none_before : halts state.batch step ≡ false → (earlier : ℕ) → earlier < suc step → halts state.batch earlier ≡ false
       none_before not_here earlier inside = by_case (cases_eq earlier step)
@@ -197,7 +197,7 @@ module _ (roll : Roll) (columns : Columns) where
   due_as_awaited host step rows waits =
       sym (awaited_where_due roll.play (roll.known host) (columns host) step) ∙ sym (ap (λ l. is_awaited roll.play l step) waits)
 
-  -- where nothing is awaited, each host is through the step
+  -- if nothing is awaited, each host has finished the step
   through_step : (state : State) (step : ℕ) → OnTrack state → state.phase ≡ working step → NobodyIsWaitedFor state step → Through state step
   through_step state step on at none host here = by_case (on.rows host step here at)
     where
@@ -244,7 +244,7 @@ module _ (roll : Roll) (columns : Columns) where
           end_of : (a b : Option ℕ) → ended a ≡ ended b → a ≡ b
           end_of a b same = cc
 
-  -- a program ends as its column says, and what is settled ends so in any column
+  -- a program ends as its column states, and settled work ends the same in any column
   same_end : (host step : ℕ) (request : Request) (ending : Ending) → MayEnd (gives columns) host step request ending → end_of request ending ≡ end_of request (columns host step)
   same_end host step (job words) ending told = told
   same_end host step (settled end) ending told = refl

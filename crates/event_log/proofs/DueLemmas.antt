@@ -1,4 +1,4 @@
--- What the summaries say of the hosts of a batch.
+-- What the summaries state about the hosts of a batch.
 use Rattle.std.proofs.Common.{◌≡◌, ℕ, ◌+◌, ◌<◌, length, arith, Bool, true, false, cond, ◌&&◌, Option, Some, None, List, [], ◌∷◌, get_or, sym, ap, ◌∙◌, refl, subst}
 use Rattle.std.specs.List.{count_by, slice_get}
 use Rattle.std.proofs.lemmas.List.Sums.{sum_by-cons}
@@ -22,7 +22,7 @@ use Rattle.event_log.specs.Turns.{HaveLinedUp, due_at, due_by, failed_at, failed
 use Rattle.event_log.specs.Works.{IsWorkOf}
 use Rattle.event_log.proofs.ListLemmas.{filter_same}
 
--- two tests that agree on the hosts of the batch line up the same
+-- two tests that agree on the hosts of the batch give the same queue
 pub lined_same : (p q : ℕ → Bool) (batch : List ℕ) (old new : List Turn) (line : List ℕ)
     → ((host : ℕ) → has_number host batch ≡ true → p host ≡ q host) → HaveLinedUp p batch old new line → HaveLinedUp q batch old new line
 lined_same p q batch old new line same lined =
@@ -40,7 +40,7 @@ missing {X} [] i within none = let past : i < 0 = within in omega (arith, past)
 missing {X} (x ∷ xs) i within none = let got : slice_get (x ∷ xs) i ≡ Some (get_or (x ∷ xs) i x) =
     slice_get-get_or (x ∷ xs) i x within in let both : None ≡ Some (get_or (x ∷ xs) i x) = sym none ∙ got in cc
 
--- as many pass as their numbers do
+-- as many hosts pass as numbers do
 numbers : (p : ℕ → Bool) (hosts : List HostId) → count_by (λ (host : HostId). p host.index) hosts ≡ count_by p (host_numbers hosts)
 numbers p [] = refl
 numbers p (host ∷ hosts) =
@@ -79,7 +79,7 @@ module _ (roll : Roll) (state : State) (work : BatchWork) (is : IsWorkOf roll st
       lined_same (due_at work.play.now step work.summaries.items) (λ host. is_due roll.play (state.rows host) step) batch old new line
       (λ host here. due_alike host (number_below (length work.summaries.items) batch host below here) step inside) lined
 
-  -- of the open batch
+  -- likewise for the open batch
   pub lined_in_batch : (step : ℕ) (old new : List Turn) (line : List ℕ) → step < length roll.play.steps.items
       → HaveLinedUp (due_at work.play.now step work.summaries.items) (host_numbers work.batch.items) old new line
       → HaveLinedUp (λ host. is_due roll.play (state.rows host) step) state.batch old new line

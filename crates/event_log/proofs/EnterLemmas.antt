@@ -30,7 +30,7 @@ use Rattle.event_log.specs.Works.{IsGiven, IsWorkOf, is_awaited_by, is_awaited_i
 use Rattle.event_log.proofs.ListLemmas.{distinct_passed, filter_same, length_without}
 use Rattle.event_log.proofs.StateLemmas.{get_set, get_set_other, got_at, some_same}
 
--- what is changed where a host reports
+-- the changes if a host reports
 pub record Enters (old new : BatchWork) (host : ℕ) (before after : Summary) : Type 0 where
   pub play : new.play.now ≡ old.play.now
   pub stage : new.stage ≡ old.stage
@@ -44,7 +44,7 @@ pub record Enters (old new : BatchWork) (host : ℕ) (before after : Summary) : 
   pub next : new.next ≡ old.next
   pub out : suc new.out ≡ old.out
 
--- the summary says of the rows that one more came
+-- the summary states that one more row was added
 abbrev pub HasEntered : Step → Ending → Summary → Summary → Type 0
 HasEntered task ending before after =
     (play : Play) (known : Known) (entries : List Entry) (place : ℕ) → Shows play known entries before → step_at play place ≡ Some task
@@ -62,7 +62,7 @@ without_other host hosts other apart = by_case (has_number other hosts) refl
     by_case false none =
         false_from_ne_true (has_number other (without host hosts)) (λ here. both_ways (has_number other hosts) none (has_without host hosts other here).1)
 
--- what the summary shows once the row is entered
+-- what the summary shows after the row is entered
 pub entered_shows : (roll : Roll) (state : State) (host step : ℕ) (ending : Ending) (before after : Summary) (may : MayReport roll state host step ending)
     → Shows roll.play (roll.known host) (state.rows host) before → HasEntered may.task ending before after
     → Shows roll.play (roll.known host) (rows_with roll host (state.rows host) step ending) after
@@ -196,7 +196,7 @@ module _ (roll : Roll) (state : State) (old new : BatchWork) (host step : ℕ) (
         count = omega (arith, enters.out, work.count, length_without host state.out work.single may.claimed);
       }
 
--- the host's row was entered, and nothing else was changed
+-- the host's row was entered, and nothing else changed
 pub enters_of : (old new : BatchWork) (host : HostId) (before after : Summary) → host.index < length old.summaries.items
     → before ≡ get_or old.summaries.items host.index before → new.play.now ≡ old.play.now → new.stage ≡ old.stage → new.batch.items ≡ old.batch.items
     → new.summaries.items ≡ set old.summaries.items host.index after → new.turns.items ≡ set old.turns.items host.index Over

@@ -35,7 +35,7 @@ one_longer roll host rows step ending =
     let more : List Entry = row_at (known_after roll.play (roll.known host) rows) (step_at roll.play step) step ending in
     omega (arith, length-append rows more, one_row (known_after roll.play (roll.known host) rows) (step_at roll.play step) step ending)
 
--- no host has more rows than steps, and one of the open batch has at most one row a step until now
+-- no host has more rows than steps, and one of the open batch has at most one row per step so far
 record HasFew (play : Play) (state : State) : Type 0 where
   rows : (host : ℕ) → length (state.rows host) ≤ length play.steps.items
   behind : (host step : ℕ) → state.phase ≡ working step → has_number host state.batch ≡ true → length (state.rows host) ≤ step + row_bit (state.rows host) step

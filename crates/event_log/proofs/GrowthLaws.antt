@@ -1,4 +1,4 @@
--- A log and what goes on from it.
+-- A log and its continuations.
 use Rattle.std.proofs.Common.{◌≡◌, ℕ, ◌≤◌, Bool, true, false, ◌&&◌, Option, None, Some, List, [], ◌∷◌, ◌++◌, sym, ap, ◌∙◌, refl, subst, arith, inl, inr, ◌⊎◌}
 use Rattle.std.specs.List.{count_by, list_all}
 use Rattle.std.proofs.lemmas.Bool.{and_parts, both_ways, cases_eq, eqb-true, ne_eqb, not-true}
@@ -187,7 +187,7 @@ module _ (roll : Roll) (host : ℕ) where
       by_case true now = absurd (both_ways true (sym (waited_before state event may work now) ∙ served) refl)
       by_case false now = refl
 
-  -- who doesn't wait isn't opened
+  -- a host that does not wait is not opened
   not_opened : (state : State) (event : Event) → Allowed roll state event → waits state ≡ false → is_opening_of host event ≡ false
   not_opened state (set_aside hosts) may served = refl
   not_opened state (claimed other step) may served = refl
@@ -206,7 +206,7 @@ module _ (roll : Roll) (host : ℕ) where
       let later = none_opened (next roll state event) log (next_at_work roll state event legal.0 work) (stays_served state event legal.0 work served) legal.1 in
       count_other (is_opening_of host) event log (not_opened state event legal.0 served) ∙ later
 
-  -- once opened a host waits no more
+  -- after its opening, a host no longer waits
   served_by : (state : State) (event : Event) → Allowed roll state event → AtWork roll.play state → is_opening_of host event ≡ true → waits (next roll state event) ≡ false
   served_by state (set_aside hosts) may work is = absurd (cc)
   served_by state (claimed other step) may work is = absurd (cc)
@@ -265,7 +265,7 @@ module _ (roll : Roll) (host : ℕ) where
       not_here : is_opening_of host event ≡ false
       not_here = by_case (is_opening_of host event) refl
 
-  -- a host that waits no more, in no open batch
+  -- a host that no longer waits, in no open batch
   one_left : (state : State) (event : Event) → Allowed roll state event → AtWork roll.play state → waits state ≡ false → is_in state ≡ false → IsLeft state (next roll state event) host
   one_left state (set_aside hosts) may work served outside =
       events_leave roll state (set_aside hosts) host (not_here (has_number host hosts) refl)

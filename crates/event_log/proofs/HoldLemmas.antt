@@ -1,4 +1,4 @@
--- Hosts that are set aside are up.
+-- Held hosts are up.
 use Rattle.std.proofs.Common.{ℕ, ◌≤◌, ◌<◌, Bool, true, false, cond, List, length, get_or, sym, subst, arith, inl, inr, ◌⊎◌}
 use Rattle.std.proofs.lemmas.Bool.{cases_lt}
 use Rattle.fleet_index.specs.NumberLists.{has_number}

@@ -1,4 +1,4 @@
--- The line of the hosts that are due and not taken.
+-- The queue of the hosts that are due and not taken.
 use Rattle.std.proofs.Common.{◌≡◌, ℕ, zero, suc, ◌+◌, ◌<◌, ◌≤◌, length, arith, true, false, not, Some, None, List, [], ◌∷◌, drop, sym, ap, ◌∙◌, refl, subst}
 use Rattle.std.specs.List.{find, slice_get}
 use Rattle.std.proofs.lemmas.Bool.{and_left, and_right}
@@ -39,7 +39,7 @@ idle_stage Between idle play rows = refl
 idle_stage (Working step) idle play rows = absurd (idle step refl)
 idle_stage (Ended halt) idle play rows = refl
 
--- nobody is free where no batch is at a step
+-- no host is free if no batch is at a step
 pub none_free : (roll : Roll) (state : State) (work : BatchWork) → IsWorkOf roll state work → ((step : ℕ) → work.stage ≡ Working step → ⊥) → find (is_free roll state) state.batch ≡ None
 none_free roll state work is idle =
     find_none (is_free roll state) state.batch (filter_none (is_free roll state) state.batch (λ host here. and_left (is_awaited_in roll state host) (not (has_number host state.out)) (over host)))
@@ -49,12 +49,12 @@ none_free roll state work is idle =
         and_right (has_number host state.batch) (is_awaited_by roll.play state.phase (state.rows host))
         (ap (λ p. is_awaited_by roll.play p (state.rows host)) (sym is.phase) ∙ idle_stage work.stage idle roll.play (state.rows host))
 
--- nor where the line is at its end
+-- nor if the queue is at its end
 pub none_left : (roll : Roll) (state : State) (work : BatchWork) → IsWorkOf roll state work → length work.line.items ≤ work.next → find (is_free roll state) state.batch ≡ None
 none_left roll state work is past =
     find_none (is_free roll state) state.batch (sym is.free ∙ line_over work.line.items work.next past)
 
--- the host at a place of a line that is lent
+-- the host at an index of a borrowed queue
 pub at_place : (line lent : List HostId) (next : ℕ) (host : HostId) → lent ≡ line → (next < length lent) × (slice_get lent next ≡ Some host) → (next < length line) × (slice_get line next ≡ Some host)
 at_place line lent next host same at =
     subst (λ (l : List HostId). (next < length l) × (slice_get l next ≡ Some host)) same at

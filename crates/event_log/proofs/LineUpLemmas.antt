@@ -1,4 +1,4 @@
--- Hosts that are lined up, from the last of the batch on.
+-- Hosts that are queued, from the last of the batch on.
 use Rattle.std.proofs.Common.{◌≡◌, ℕ, zero, suc, ◌+◌, ◌-◌, ◌<◌, ◌≤◌, length, arith, Bool, true, false, cond, ◌&&◌, ◌||◌, nat_eq, List, [], ◌∷◌, drop}
 use Rattle.std.proofs.Common.{get_or, set, sym, ap, ◌∙◌, refl, subst, inl, inr, ◌⊎◌}
 use Rattle.std.specs.List.{filter}
@@ -13,7 +13,7 @@ use Rattle.event_log.specs.declared.turn.Turn.{Turn}
 use Rattle.event_log.specs.declared.turn.Turn.TheVariants.{Over, Due}
 use Rattle.event_log.specs.Turns.{HaveLinedUp, due_at, turn_at}
 
--- a host that is below the bound takes the place of another
+-- a host below the bound replaces another
 pub below_set : (bound : ℕ) (hosts : List HostId) (i : ℕ) (host : HostId) → are_below bound (host_numbers hosts) ≡ true → host.index < bound → are_below bound (host_numbers (set hosts i host)) ≡ true
 below_set bound [] i host below within = refl
 below_set bound (first ∷ hosts) zero host below within =
@@ -22,7 +22,7 @@ below_set bound (first ∷ hosts) (suc i) host below within =
     and_from _ (are_below bound (host_numbers (set hosts i host))) (and_parts _ (are_below bound (host_numbers hosts)) below).0
     (below_set bound hosts i host (and_parts _ (are_below bound (host_numbers hosts)) below).1 within)
 
--- the hosts from the one before a place on
+-- the hosts from the one before an index on
 from_before : (hosts : List HostId) (place : ℕ) (d : HostId) → 0 < place → place ≤ length hosts
     → host_numbers (drop (place - 1) hosts) ≡ (get_or hosts (place - 1) d).index ∷ host_numbers (drop place hosts)
 from_before hosts place d some within =
@@ -31,7 +31,7 @@ from_before hosts place d some within =
     one_more : (n : ℕ) → 0 < n → (n - 1) + 1 ≡ n
     one_more n some = omega (arith, some)
 
--- nobody is lined up
+-- no host is queued
 pub lined_none : (due : ℕ → Bool) (hosts line : List HostId) (turns : List Turn) (n m : ℕ) → host_numbers (drop n hosts) ≡ []
     → host_numbers (drop m line) ≡ [] → HaveLinedUp due (host_numbers (drop n hosts)) turns turns (host_numbers (drop m line))
 lined_none due hosts line turns n m none over =
@@ -49,7 +49,7 @@ module _ (due : ℕ → Bool) (batch line : List HostId) (place first : ℕ) (ho
   from : host_numbers (drop (place - 1) batch) ≡ host.index ∷ rest
   from = from_before batch place host some within ∙ ap (λ (h : HostId). h.index ∷ rest) named
 
-  -- the step is due on the host before
+  -- the step is due on the previous host
   pub lined_due : due host.index ≡ true → host.index < length turns → 0 < first → first ≤ length line
       → HaveLinedUp due (host_numbers (drop (place - 1) batch)) old (set turns host.index Due) (host_numbers (drop (first - 1) (set line (first - 1) host)))
   lined_due passes inside room long =
@@ -103,7 +103,7 @@ module _ (due : ℕ → Bool) (batch line : List HostId) (place first : ℕ) (ho
             line = lined.line ∙ sym (ap (λ b. cond b (host.index ∷ filter due rest) (filter due rest)) fails);
           }
 
--- the same of equal lists
+-- likewise for equal lists
 pub lined_moved : (play : Play) (step : ℕ) (s s' : List Summary) (b b' : List HostId) (old old' new new' : List Turn) (line line' : List HostId) (first : ℕ)
     → s ≡ s' → b ≡ b' → old ≡ old' → new ≡ new' → line ≡ line'
     → HaveLinedUp (due_at play step s) (host_numbers b) old new (host_numbers (drop first line))

@@ -10,7 +10,7 @@ use Rattle.fleet_states.specs.Statuses.{are_distinct}
 use Rattle.event_log.specs.States.{without}
 use Rattle.domains.proofs.WhereLemmas.{filter-filter}
 
--- two tests that agree on the hosts of a list are passed by the same
+-- two tests that agree on the hosts of a list let the same hosts pass
 pub filter_same : (p q : ℕ → Bool) (hosts : List ℕ) → ((host : ℕ) → has_number host hosts ≡ true → p host ≡ q host) → filter p hosts ≡ filter q hosts
 filter_same p q [] same = refl
 filter_same p q (host ∷ hosts) same =
@@ -18,7 +18,7 @@ filter_same p q (host ∷ hosts) same =
     let later : filter p hosts ≡ filter q hosts = filter_same p q hosts (λ other behind. same other (or_right (nat_eq other host) (has_number other hosts) behind)) in
     ap (λ b. cond b (host ∷ filter p hosts) (filter p hosts)) here ∙ ap (λ l. cond (q host) (host ∷ l) l) later
 
--- a test that none passes
+-- a test that no host passes
 pub filter_none : (p : ℕ → Bool) (hosts : List ℕ) → ((host : ℕ) → has_number host hosts ≡ true → p host ≡ false) → filter p hosts ≡ []
 filter_none p [] none = refl
 filter_none p (host ∷ hosts) none =
@@ -26,7 +26,7 @@ filter_none p (host ∷ hosts) none =
     let later : filter p hosts ≡ [] = filter_none p hosts (λ other behind. none other (or_right (nat_eq other host) (has_number other hosts) behind)) in
     ap (λ b. cond b (host ∷ filter p hosts) (filter p hosts)) here ∙ later
 
--- the first that passes
+-- the first host that passes
 pub find_first : (p : ℕ → Bool) (hosts : List ℕ) (host : ℕ) (rest : List ℕ) → filter p hosts ≡ host ∷ rest → find p hosts ≡ Some host
 find_first p [] host rest is = absurd (cc)
 find_first p (first ∷ hosts) host rest is =
@@ -44,7 +44,7 @@ find_none p (first ∷ hosts) is = by_case (find_none p hosts) (p first) is
     by_case later true is = absurd (cc)
     by_case later false is = later is
 
--- who stands among those that pass
+-- the hosts that pass
 pub has_passed : (p : ℕ → Bool) (hosts : List ℕ) (host : ℕ) → has_number host (filter p hosts) ≡ true → (has_number host hosts ≡ true) × (p host ≡ true)
 has_passed p [] host here = absurd (cc)
 has_passed p (first ∷ hosts) host here = by_case (has_passed p hosts host) (p first) refl here
@@ -75,7 +75,7 @@ distinct_passed p (first ∷ hosts) distinct =
     by_case true kept left = kept
     by_case false kept left = left
 
--- a host that isn't in the list is no loss
+-- removing a host that is not in the list changes nothing
 pub without_none : (host : ℕ) (hosts : List ℕ) → has_number host hosts ≡ false → without host hosts ≡ hosts
 without_none host [] none = refl
 without_none host (first ∷ hosts) none =
@@ -83,7 +83,7 @@ without_none host (first ∷ hosts) none =
     let apart : nat_eq first host ≡ false = false_from_ne_true (nat_eq first host) (λ same. both_ways (nat_eq host first) parts.0 (eq-eqb host first (sym (eqb-true first host same)))) in
     ap (λ b. cond (not b) (first ∷ without host hosts) (without host hosts)) apart ∙ ap (λ l. first ∷ l) (without_none host hosts parts.1)
 
--- the list behind its first
+-- the list after its first host
 pub without_first : (host : ℕ) (hosts : List ℕ) → are_distinct (host ∷ hosts) ≡ true → without host (host ∷ hosts) ≡ hosts
 without_first host hosts distinct =
     let parts = and_parts (not (has_number host hosts)) (are_distinct hosts) distinct in
@@ -114,7 +114,7 @@ length_without host (first ∷ hosts) distinct here =
             absurd (both_ways (nat_eq first host) apart (eq-eqb first host (sym (eqb-true host first same))))
         either false other is = ap suc (later parts.1 is)
 
--- the free hosts behind the first, once that is taken
+-- the free hosts after the first, once that is taken
 pub line_behind : (p : ℕ → Bool) (hosts : List ℕ) (host : ℕ) (rest : List ℕ) → are_distinct hosts ≡ true → filter p hosts ≡ host ∷ rest
     → rest ≡ filter (λ other. p other && not (nat_eq other host)) hosts
 line_behind p hosts host rest distinct is =

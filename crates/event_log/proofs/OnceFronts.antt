@@ -47,7 +47,7 @@ row_added roll host rows step ending task is = by_case (step_at roll.play step) 
         list_any-append (λ (entry : Entry). nat_eq entry.step step) rows more ∙ or_right (has_row rows step) (has_row more step) here
 
 module _ (roll : Roll) (host step : ℕ) where
-  -- the host has a row of the step, or is out for it
+  -- the host has a row of the step, or has been claimed for it
   abbrev Assignment : State → Type 0
   Assignment state =
       (has_row (state.rows host) step ≡ true) ⊎ ((has_number host state.out ≡ true) × (state.phase ≡ working step))
@@ -69,7 +69,7 @@ module _ (roll : Roll) (host step : ℕ) where
   has_after state (passed place) has = has
   has_after state closed has = ap (λ l. has_row l step) (closed_rows state state.phase host) ∙ has
 
-  -- the host has a row of the step once another number's report, if it is its own, is in
+  -- the host has a row of the step after a report with a number, if the number is the host's
   abbrev IsIn : State → ℕ → ℕ → Ending → Type 0
   IsIn state other place ending =
       has_row ((next roll state (reported other place ending)).rows host) step ≡ true
@@ -150,7 +150,7 @@ module _ (roll : Roll) (host step : ℕ) where
           omega (arith, none, first)
       by_case false is few = omega (arith, few, count_other (is_claim_of host step) event log is)
 
-  -- a host with a row of the step reports it no more
+  -- a host with a row of the step does not report it again
   not_reported : (state : State) → AtWork roll.play state → has_row (state.rows host) step ≡ true → (event : Event) → Allowed roll state event → is_report_of host step event ≡ false
   not_reported state work has (set_aside hosts) may = refl
   not_reported state work has (opened batch) may = refl
@@ -204,14 +204,14 @@ module _ (roll : Roll) (host step : ℕ) where
   at_step (working now) = nat_eq now step
   at_step (ended halt) = false
 
-  -- 1 where the host is out for the step
+  -- 1 if the host is claimed for the step
   abbrev owed : State → ℕ
   owed state = bit (has_number host state.out && at_step state.phase)
 
   nobody_owes : (state : State) → state.out ≡ [] → owed state ≡ 0
   nobody_owes state none = ap (λ out. bit (has_number host out && at_step state.phase)) none
 
-  -- a claim of the step makes one owed, its report settles it, and nothing else makes one
+  -- a claim of the step makes its report owed, the report settles it, and nothing else makes one owed
   Paid : State → Event → Type 0
   Paid state event =
       bit (is_report_of host step event) + owed (next roll state event) ≤ bit (is_claim_of host step event) + owed state

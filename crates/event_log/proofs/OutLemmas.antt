@@ -1,4 +1,4 @@
--- Hosts of a list, by whether they stand in it.
+-- Hosts of a list, by membership.
 use Rattle.std.proofs.Common.{◌≡◌, ℕ, ◌+◌, ◌≤◌, length, arith, Bool, true, false, cond, not, nat_eq, List, [], ◌∷◌, sym, ap, ◌∙◌, refl, inl, inr, ◌⊎◌}
 use Rattle.std.specs.List.{count_by, list_all, list_any}
 use Rattle.std.proofs.lemmas.Bool.{both_ways, eq-eqb, eqb-true, or_cases, or_left, or_right}
@@ -7,13 +7,13 @@ use Rattle.fleet_states.proofs.CountLemmas.{bit, count_by-cons}
 use Rattle.fleet_states.proofs.NumberLemmas.{list_all_number}
 use Rattle.event_log.specs.States.{without}
 
--- a list in which nothing stands
+-- a list without any host
 pub none_listed : (hosts : List ℕ) → ((host : ℕ) → has_number host hosts ≡ true → ⊥) → hosts ≡ []
 none_listed [] none = refl
 none_listed (host ∷ hosts) none =
     absurd (none host (or_left (nat_eq host host) (has_number host hosts) (eq-eqb host host refl)))
 
--- a test that one of them passes is passed by some
+-- if one of them passes a test, some host passes
 pub any_of : (test : ℕ → Bool) (hosts : List ℕ) (host : ℕ) → has_number host hosts ≡ true → test host ≡ true → list_any test hosts ≡ true
 any_of test [] host here passes = absurd (cc)
 any_of test (first ∷ hosts) host here passes =
@@ -24,7 +24,7 @@ any_of test (first ∷ hosts) host here passes =
         or_left (test first) (list_any test hosts) (sym (ap test (eqb-true host first same)) ∙ passes)
     by_case later (inr behind) = or_right (test first) (list_any test hosts) (later behind passes)
 
--- who is left when one is taken out was in the list, and isn't that one
+-- a host that is left after one is removed was in the list, and is not that one
 pub has_without : (host : ℕ) (hosts : List ℕ) (other : ℕ) → has_number other (without host hosts) ≡ true → (other ≡ host → ⊥) × (has_number other hosts ≡ true)
 has_without host [] other here = absurd (cc)
 has_without host (first ∷ hosts) other here =
@@ -55,7 +55,7 @@ fewer_without host (first ∷ hosts) = by_case (not (nat_eq first host)) (fewer_
     by_case true fewer = omega (arith, fewer)
     by_case false fewer = omega (arith, fewer)
 
--- two tests that agree on the hosts of a list are passed by as many of them
+-- two tests that agree on the hosts of a list let the same number pass
 pub count_same : (p q : ℕ → Bool) (hosts : List ℕ) → ((host : ℕ) → has_number host hosts ≡ true → p host ≡ q host) → count_by p hosts ≡ count_by q hosts
 count_same p q [] same = refl
 count_same p q (host ∷ hosts) same =
@@ -63,11 +63,11 @@ count_same p q (host ∷ hosts) same =
     let later : count_by p hosts ≡ count_by q hosts = count_same p q hosts (λ other behind. same other (or_right (nat_eq other host) (has_number other hosts) behind)) in
     count_by-cons p host hosts ∙ ap (λ b. bit b + count_by p hosts) here ∙ ap (λ n. bit (q host) + n) later ∙ sym (count_by-cons q host hosts)
 
--- a test that all of them pass is passed by each
+-- if all of them pass a test, each does
 pub all_in : (test : ℕ → Bool) (hosts : List ℕ) (host : ℕ) → list_all test hosts ≡ true → has_number host hosts ≡ true → test host ≡ true
 all_in test hosts host all here = list_all_number test hosts host all here
 
--- a test that none passes
+-- a test that no host passes
 pub any_none : (test : ℕ → Bool) (hosts : List ℕ) (host : ℕ) → list_any test hosts ≡ false → has_number host hosts ≡ true → test host ≡ false
 any_none test hosts host none here = by_case (test host) refl
   where
@@ -75,7 +75,7 @@ any_none test hosts host none here = by_case (test host) refl
     by_case true passes = sym (any_of test hosts host here passes) ∙ none
     by_case false fails = refl
 
--- who is left when another is taken out
+-- the hosts that are left after another is removed
 pub has_still : (host : ℕ) (hosts : List ℕ) (other : ℕ) → (other ≡ host → ⊥) → has_number other hosts ≡ true → has_number other (without host hosts) ≡ true
 has_still host [] other apart here = absurd (cc)
 has_still host (first ∷ hosts) other apart here =

@@ -1,4 +1,4 @@
--- A host that owes and is updated has a row of each step, and each row was reported.
+-- A host that owes handlers and is updated has a row for each step, and each row was reported.
 use Rattle.std.proofs.Common.{◌≡◌, ℕ, ◌+◌, ◌≤◌, ◌<◌, nat_eq, Bool, true, false, cond, ◌&&◌, ◌||◌, IsTrue, Option, Some, None, List, [], ◌∷◌, ◌++◌, length, refl, sym, ap, ap₂, ◌∙◌, subst, arith, inl, inr, ◌⊎◌}
 use Rattle.std.specs.Prelude.{if◌then◌else◌}
 use Rattle.std.specs.List.{count_by}
@@ -26,7 +26,7 @@ use Rattle.event_log.proofs.OnceFronts.{count_first, count_other, has_after, no_
 use Rattle.event_log.proofs.ToldColumns.{logs_have_columns}
 use Rattle.event_log.proofs.WorkLemmas.{closed_rows, next_at_work, other_rows, other_status, own_rows, own_status, start_at_work, status_in_batch}
 
--- a host that is updated behind a change that makes none so was updated before
+-- a host that is updated after a change that updates none was updated before
 was_updated : (change : Status → Status) (hosts : List ℕ) (statuses : List Status) (host : ℕ) → ((s : Status) → change s ≡ Updated → s ≡ Updated)
     → status_at (changed change hosts statuses) host ≡ Updated → status_at statuses host ≡ Updated
 was_updated change hosts statuses host none is = by_case (cases_lt host (length statuses))
@@ -49,7 +49,7 @@ halted_none step Halted is = absurd (cc)
 halted_none step Off is = absurd (cc)
 halted_none step Held is = absurd (cc)
 
--- who is updated as its batch is closed has no failed row
+-- a host that is updated when its batch is closed has no failed row
 lives : (rows : List Entry) → at_rest None (status_in_batch rows) ≡ Updated → has_failed rows ≡ false
 lives rows is = by_case (has_failed rows) is
   where
@@ -71,7 +71,7 @@ module _ (roll : Roll) (columns : Columns) (host : ℕ) (owes : IsTrue (roll.kno
   abbrev HasEach : State → Type 0
   HasEach state = (step : ℕ) → step < steps → has_row (state.rows host) step ≡ true
 
-  -- where it is updated it has a row of each step
+  -- if it is updated, it has a row for each step
   abbrev RunsEach : State → Type 0
   RunsEach state = status_at state.statuses host ≡ Updated → HasEach state
 
@@ -120,7 +120,7 @@ module _ (roll : Roll) (columns : Columns) (host : ℕ) (owes : IsTrue (roll.kno
       along (next roll state event) log legal.1 told.1
       (next_at_work roll state event legal.0 kept.0, next_on_track roll columns state event legal.0 told.0 kept.0 kept.1) (runs_on state event legal.0 kept runs)
 
--- a row of another step is none of this one
+-- a row of another step is not one of this step
 row_before : (roll : Roll) (host : ℕ) (rows : List Entry) (step place : ℕ) (ending : Ending) → (place ≡ step → ⊥) → has_row (rows_with roll host rows place ending) step ≡ true → has_row rows step ≡ true
 row_before roll host rows step place ending apart has = by_case (step_at roll.play place) has
   where
@@ -136,7 +136,7 @@ row_before roll host rows step place ending apart has = by_case (step_at roll.pl
         other (Some task) = ap (λ b. b || false) (ne_eqb place step apart)
 
 module _ (roll : Roll) (host step : ℕ) where
-  -- an event that is no report of the step leaves no new row of it
+  -- an event other than a report of the step adds no row of it
   had_before : (state : State) (event : Event) → is_report_of host step event ≡ false → has_row ((next roll state event).rows host) step ≡ true → has_row (state.rows host) step ≡ true
   had_before state (set_aside hosts) silent has = has
   had_before state (opened batch) silent has = has

@@ -1,4 +1,4 @@
--- A batch that begins a step, or ends.
+-- A batch that starts a step, or ends.
 use Rattle.std.proofs.Common.{◌≡◌, ℕ, suc, ◌+◌, ◌≤◌, length, arith, Bool, true, false, cond, not, ◌&&◌, ◌||◌, nat_eq, Option, Some, None, List, [], ◌∷◌, drop, sym, ap, ◌∙◌, refl}
 use Rattle.std.specs.Prelude.{if◌then◌else◌}
 use Rattle.std.specs.List.{count_by, filter, list_all, slice_get}
@@ -27,7 +27,7 @@ use Rattle.event_log.specs.Turns.{HaveLinedUp, awaits, is_out, turn_at}
 use Rattle.event_log.specs.Works.{IsGiven, IsWorkOf, is_awaited_by, is_awaited_in, is_free, phase_by, phase_of}
 use Rattle.event_log.proofs.ListLemmas.{filter_none, filter_same}
 
--- nobody is awaited, and nobody is out
+-- no host is awaited, and none is out
 pub record IsIdle (turns : List Turn) : Type 0 where
   pub awaited : (host : ℕ) → awaits (turn_at turns host) ≡ false
   pub taken : (host : ℕ) → is_out (turn_at turns host) ≡ false
@@ -40,7 +40,7 @@ out_cond : (b : Bool) (turn : Turn) → is_out turn ≡ false → is_out (cond b
 out_cond true turn none = refl
 out_cond false turn none = none
 
--- the turns and the line of a batch that begins a step
+-- the turns and the queue of a batch that starts a step
 module _ (roll : Roll) (state : State) (step : ℕ) (old new : List Turn) (line : List ℕ) (idle : IsIdle old) (at : state.phase ≡ working step)
     (nobody : state.out ≡ []) (fresh : (host : ℕ) → has_number host state.batch ≡ true → has_row (state.rows host) step ≡ false)
     (lined : HaveLinedUp (λ host. is_due roll.play (state.rows host) step) state.batch old new line) where
@@ -92,7 +92,7 @@ module _ (roll : Roll) (state : State) (step : ℕ) (old new : List Turn) (line 
   lined_given host at asked summary task turn =
       absurd (both_ways true (sym (ap is_out turn) ∙ lined_idle host) refl)
 
--- as many have failed as there are hosts where all have
+-- all hosts have failed exactly if the number of failed hosts is the number of hosts
 counted_all : (p : ℕ → Bool) (hosts : List ℕ) → count_by p hosts ≤ length hosts
 counted_all p [] = omega arith
 counted_all p (host ∷ hosts) =
@@ -125,7 +125,7 @@ all_counted p (host ∷ hosts) =
     by_case false here few later =
         ne_eqb (count_by p (host ∷ hosts)) (length (host ∷ hosts)) (λ same. let more : suc (length hosts) ≤ length hosts = omega (arith, same, here, few) in omega (arith, more))
 
--- the phase by the number of those that failed
+-- the phase by the number of failed hosts
 pub phase_alike : (play : Play) (state : State) (step count size : ℕ) → count ≡ failures state → size ≡ length state.batch → phase_by play step count size ≡ phase_after play state step
 phase_alike play state step count size counted sized =
     ap (λ n. phase_by play step n size) counted ∙ ap (phase_by play step (failures state)) sized
@@ -139,7 +139,7 @@ phase_alike play state step count size counted sized =
     by_case false true all dead same = refl
     by_case false false all dead same = ap (λ (b : Bool). if b then ended None else working (suc step)) same
 
--- a batch whose step is over
+-- a batch whose step has ended
 module _ (roll : Roll) (state : State) (old : BatchWork) (step : ℕ) (work : IsWorkOf roll state old) (may : MayPass roll state step) (nobody : state.out ≡ []) where
   pub none_awaited : (host : ℕ) → is_awaited_in roll state host ≡ false
   none_awaited host = by_case (has_number host state.batch) refl
@@ -156,7 +156,7 @@ module _ (roll : Roll) (state : State) (old : BatchWork) (step : ℕ) (work : Is
         taken = λ host. work.taken host ∙ ap (has_number host) nobody;
       }
 
--- what stays where a batch begins a step or ends
+-- what stays if a batch starts a step or ends
 pub record Stays (old new : BatchWork) : Type 0 where
   pub play : new.play.now ≡ old.play.now
   pub summaries : new.summaries.items ≡ old.summaries.items
@@ -202,7 +202,7 @@ module _ (roll : Roll) (state : State) (old new : BatchWork) (step : ℕ) (work 
           count = stays.out ∙ work.count;
         }
 
-  -- it goes on
+  -- it continues
   module _ (later : ℕ) (goes_on : phase_after roll.play state step ≡ working later)
       (fresh : (host : ℕ) → has_number host state.batch ≡ true → has_row (state.rows host) later ≡ false)
       (lined : HaveLinedUp (λ host. is_due roll.play (state.rows host) later) state.batch old.turns.items new.turns.items (rest_of new)) where
@@ -227,7 +227,7 @@ module _ (roll : Roll) (state : State) (old new : BatchWork) (step : ℕ) (work 
           count = stays.out ∙ work.count;
         }
 
--- the halt of one that goes on with none
+-- the halt of a batch that continues with no step
 pub ends_with : (play : Play) (state : State) (step : ℕ) (stage : Stage) → phase_of stage ≡ phase_after play state step
     → ((later : ℕ) → stage ≡ Working later → ⊥) → (halt : Option ℕ) × (phase_after play state step ≡ ended halt)
 ends_with play state step (Ended halt) at over = (halt, sym at)

@@ -1,4 +1,4 @@
--- A batch that is open goes on and ends.
+-- An open batch continues and ends.
 use Rattle.std.proofs.Common.{◌≡◌, ℕ, zero, suc, ◌<◌, nat_lt, nat_eq, pos, Bool, true, false, Option, Some, None, List, [], ◌∷◌, length, sym, ap, ◌∙◌, refl, subst, arith, inl, inr, ◌⊎◌}
 use Rattle.std.specs.Prelude.{slice_get, if◌then◌else◌}
 use Rattle.std.specs.List.{list_any}
@@ -76,13 +76,13 @@ some_end (settled end) = (end, refl)
 abbrev MayGoOn : Roll → State → Type 0
 MayGoOn roll state = (event : Event) × Allowed roll state event
 
--- a step of a play is there
+-- a step of a play exists
 gone : (list : List Step) (place : ℕ) → place < length list → slice_get list place ≡ None → ⊥
 gone [] place within none = absurd (omega (arith, within))
 gone (first ∷ list) zero within none = absurd (cc)
 gone (first ∷ list) (suc place) within none = gone list place (omega (arith, within)) none
 
--- a claim that is out may report
+-- an outstanding claim may report
 may_report : (roll : Roll) (state : State) (step host : ℕ) → IsAtAStep roll state → state.phase ≡ working step → has_number host state.out ≡ true → MayGoOn roll state
 may_report roll state step host inside at out = by_task (step_at roll.play step) refl
   where
@@ -95,7 +95,8 @@ may_report roll state step host inside at out = by_task (step_at roll.play step)
         let end = some_end (asks (known_after roll.play (roll.known host) (state.rows host)) task) in
         (reported host step end.0, record { at = at; claimed = out; task = task; is = is; ends = end.1 })
 
--- at a step a claim that is out may report, else a host that is awaited may be claimed, else the step is passed
+-- at a step, an outstanding claim may report; otherwise an awaited host may be claimed; otherwise the step may be
+-- passed
 at_work : (roll : Roll) (state : State) (step : ℕ) → 0 < roll.forks → IsAtAStep roll state → state.phase ≡ working step → MayGoOn roll state
 at_work roll state step forks inside at =
     by_out state.out refl (list_any (λ host. is_awaited roll.play (state.rows host) step) state.batch) refl

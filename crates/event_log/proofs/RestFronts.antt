@@ -1,4 +1,4 @@
--- From a start at rest nobody runs where no batch is open.
+-- If no host is running at the start, none is running whenever no batch is open.
 use Rattle.std.proofs.Common.{◌≡◌, ℕ, zero, suc, ◌≤◌, ◌<◌, Bool, true, false, cond, Option, Some, None, List, [], ◌∷◌, length, take, sym, ap, ◌∙◌, refl, subst, inl, inr, ◌⊎◌}
 use Rattle.std.proofs.lemmas.Bool.{both_ways, cases_eq, cases_lt}
 use Rattle.std.proofs.lemmas.List.{get_or_default}
@@ -15,7 +15,7 @@ use Rattle.event_log.specs.Logs.{Allowed, IsLegal, next, closed_state, state_aft
 use Rattle.event_log.specs.Laws.{LegalLogsRestBetweenBatches}
 use Rattle.event_log.proofs.WorkLemmas.{AtWork, start_at_work, next_at_work, other_status}
 
--- who runs is in the open batch
+-- a running host is in the open batch
 abbrev RunsInBatch : State → Type 0
 RunsInBatch state =
     (host : ℕ) → is_running (status_at state.statuses host) ≡ true → has_number host state.batch ≡ true
@@ -26,7 +26,7 @@ start_in_batch roll rest host runs = absurd (both_ways true (sym runs ∙ nobody
 abbrev runs_in : List Status → ℕ → Bool
 runs_in statuses host = is_running (status_at statuses host)
 
--- a host that runs after such a change is one of the changed, or ran before
+-- a host that is running after such a change is one of the changed ones, or was running before
 ran : (change : Status → Status) (hosts : List ℕ) (statuses : List Status) (host : ℕ) → runs_in (changed change hosts statuses) host ≡ true
     → (has_number host hosts ≡ true) ⊎ (runs_in statuses host ≡ true)
 ran change hosts statuses host runs = by_case (cases_lt host (length statuses))
@@ -41,7 +41,7 @@ ran change hosts statuses host runs = by_case (cases_lt host (length statuses))
     by_case (inr past) =
         absurd (both_ways true (sym runs ∙ ap is_running (status_at-changed_past change hosts statuses host past)) refl)
 
--- a change to a status at rest makes nobody run
+-- a change to a status at rest makes no host run
 ran_before : (change : Status → Status) (hosts : List ℕ) (statuses : List Status) (host : ℕ) → ((s : Status) → is_running (change s) ≡ false)
     → runs_in (changed change hosts statuses) host ≡ true → (has_number host hosts ≡ false) × (runs_in statuses host ≡ true)
 ran_before change hosts statuses host rests runs = by_case (cases_lt host (length statuses))
@@ -105,7 +105,7 @@ nobody_runs state in_batch none k d within =
     by_case true is = sym (sym (ap (has_number k) none) ∙ in_batch k is)
     by_case false is = refl
 
--- where no batch is open nobody runs
+-- if no batch is open, no host is running
 abbrev RestsBetween : State → Type 0
 RestsBetween state = state.phase ≡ between → NobodyRuns state.statuses
 

@@ -1,4 +1,4 @@
--- From a safe start a legal log is safe at every front.
+-- From a safe start, a legal log is safe after every prefix.
 use Rattle.std.proofs.Common.{ℕ, zero, suc, ◌≤◌, Bool, true, false, Option, Some, None, List, [], ◌∷◌, set, take, sym, ap, refl, subst, arith}
 use Rattle.std.specs.Prelude.{if◌then◌else◌}
 use Rattle.fleet_states.specs.declared.status.Status.{Status}

@@ -1,4 +1,4 @@
--- The summaries of hosts that begin a play.
+-- The summaries of hosts that start a play.
 use Rattle.std.proofs.Common.{◌≡◌, ℕ, ◌-◌, ◌<◌, ◌≤◌, length, sym, ap, ◌∙◌, subst, arith, List, [], ◌∷◌, ◌++◌, Some, get_or, inl, inr, ◌⊎◌}
 use Rattle.std.specs.List.{slice_get}
 use Rattle.std.proofs.lemmas.Bool.{cases_lt}
@@ -14,7 +14,7 @@ use Rattle.host_track.specs.declared.summary.Summary.{Summary}
 use Rattle.host_track.proofs.SummaryLemmas.{kept_known}
 use Rattle.event_log.specs.Works.{known_at, known_with}
 
--- one summary more, of the next host as it begins the play
+-- one more summary, of the next host as it starts the play
 pub shows_more : (registers : Registers) (play : Play) (vars : List Vars) (old new : List Summary) (count : ℕ) (item begun : Vars) (summary : Summary)
     → length old ≡ count → ((host : ℕ) (s : Summary) → slice_get old host ≡ Some s → Shows play (known_at vars host) [] s) → new ≡ old ++ summary ∷ []
     → count < length vars → item ≡ get_or vars count item → BeginsPlay registers begun item → Shows play (known_of begun) [] summary

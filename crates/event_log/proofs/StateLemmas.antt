@@ -1,4 +1,4 @@
--- The parts of what is kept, by themselves.
+-- The parts of the stored state, one by one.
 use Rattle.std.proofs.Common.{◌≡◌, ℕ, ◌<◌, length, arith, Bool, true, false, not, ◌&&◌, ◌||◌, Some, List, get_or, set, sym, ap, ◌∙◌, refl}
 use Rattle.std.specs.Prelude.{Result, Ok, Err, OnErr}
 use Rattle.std.specs.List.{slice_get}

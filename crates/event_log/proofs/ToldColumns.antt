@@ -1,4 +1,4 @@
--- A legal log tells the columns of its own reports.
+-- The columns of a legal log's own reports match the log.
 use Rattle.std.proofs.Common.{◌≡◌, ℕ, suc, ◌+◌, ◌≤◌, nat_eq, Bool, true, false, ◌&&◌, List, [], ◌∷◌, sym, ap, ◌∙◌, refl, arith}
 use Rattle.std.specs.Prelude.{if◌then◌else◌}
 use Rattle.std.specs.List.{count_by}
@@ -23,7 +23,7 @@ Has columns (reported host step ending) = ending ≡ columns host step
 Has columns (passed step) = Unit {0}
 Has columns closed = Unit {0}
 
--- each of a host's steps that the log reports, it reports as the columns do
+-- the columns agree with the log on each step of a host that the log reports
 abbrev Agrees : Columns → List Event → Type 0
 Agrees columns log =
     (host step : ℕ) → 1 ≤ count_by (is_report_of host step) log → columns host step ≡ columns_of log host step
@@ -35,7 +35,7 @@ own : (host step : ℕ) → (nat_eq host host && nat_eq step step) ≡ true
 own host step =
     ap (λ b. b && nat_eq step step) (eq-eqb host host refl) ∙ eq-eqb step step refl
 
--- what is told behind an event of another step
+-- the reported end after an event of another step
 told_behind : (event : Event) (host step : ℕ) (otherwise : Ending) → is_report_of host step event ≡ false → told_in event host step otherwise ≡ otherwise
 told_behind (set_aside hosts) host step otherwise other = refl
 told_behind (opened batch) host step otherwise other = refl

@@ -1,4 +1,5 @@
--- What a legal log keeps of the open batch: who is at work in it, who is out, and who has no rows yet.
+-- Invariants of the open batch in a legal log: which hosts are running in it, which are out, and which have no rows
+-- yet.
 use Rattle.std.proofs.Common.{◌≡◌, ℕ, suc, ◌≤◌, ◌<◌, Bool, true, false, cond, not, ◌&&◌, nat_eq, Option, Some, None, List, [], length, set, sym, ap, ◌∙◌, refl, subst, inl, inr, ◌⊎◌}
 use Rattle.std.specs.Prelude.{if◌then◌else◌}
 use Rattle.std.specs.List.{list_any}
@@ -18,7 +19,7 @@ use Rattle.event_log.specs.States.{State, Phase, between, working, ended, failur
 use Rattle.event_log.specs.Logs.{Allowed, next, closed_state}
 use Rattle.event_log.proofs.OutLemmas.{has_without, none_listed, any_of}
 
--- what a host of the open batch is
+-- the status of a host of the open batch
 abbrev pub status_in_batch : List Entry → Status
 status_in_batch rows = if has_failed rows then Failed else Running
 
@@ -81,7 +82,7 @@ rest_waits (Some step) Held e = e
 pub step_of : (a b : ℕ) → working a ≡ working b → a ≡ b
 step_of a b same = cc
 
--- the step that a batch goes on with
+-- the step with which a batch continues
 pub later_is : (play : Play) (state : State) (step later : ℕ) → phase_after play state step ≡ working later → later ≡ suc step
 later_is play state step later at =
     by_case (is_past play.max_fail (failures state) (length state.batch)) (is_last play step) (is_dead state) at
@@ -101,7 +102,7 @@ awaited_lives play rows step awaited =
     lives false due e = refl
     lives true due e = absurd (cc)
 
--- the host of a report, and what it is before it
+-- the host of a report, and its state before it
 module _ (roll : Roll) (state : State) (host step : ℕ) (work : AtWork roll.play state) (out : has_number host state.out ≡ true) (at : state.phase ≡ working step) where
   pub lives : has_failed (state.rows host) ≡ false
   lives = awaited_lives roll.play (state.rows host) step (work.awaited host step out at)
@@ -143,7 +144,7 @@ abbrev NobodyIsAwaited : Play → State → ℕ → Type 0
 NobodyIsAwaited play state step =
     list_any (λ host. is_awaited play (state.rows host) step) state.batch ≡ false
 
--- nobody of the batch is awaited, so nobody is out
+-- no host of the batch is awaited, so none is out
 pub passed_out : (play : Play) (state : State) (step : ℕ) → AtWork play state → state.phase ≡ working step → NobodyIsAwaited play state step → state.out ≡ []
 passed_out play state step work at none = none_listed state.out nobody_out
   where

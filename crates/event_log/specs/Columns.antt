@@ -1,4 +1,4 @@
--- What a log says of the hosts, against columns, which give each host and step an end for its program.
+-- The ends that a log reports, compared with columns, which give each host and step an end for its program.
 use Rattle.std.specs.Prelude.{◌≡◌, ℕ, suc, nat_eq, true, ◌&&◌, Option, Some, None, List, [], ◌∷◌, length, pos, if◌then◌else◌}
 use Rattle.fleet_index.specs.NumberLists.{has_number}
 use Rattle.host_track.specs.Endings.{Ending, ran}
@@ -13,11 +13,11 @@ use Rattle.event_log.specs.Told.{AreTold, Work}
 abbrev pub Columns : Type 0
 Columns = ℕ → Column
 
--- a program that ends well and prints nothing
+-- a program that succeeds and prints nothing
 abbrev pub well_ended : Ending
 well_ended = ran (pos 0) [] []
 
--- the end that the event reports of this step on the host, else what is told of it otherwise
+-- the end that the event reports of this step on the host, otherwise the given one
 abbrev pub told_in : Event → ℕ → ℕ → Ending → Ending
 told_in (set_aside hosts) host step otherwise = otherwise
 told_in (opened batch) host step otherwise = otherwise
@@ -27,7 +27,7 @@ told_in (reported other place ending) host step otherwise =
 told_in (passed place) host step otherwise = otherwise
 told_in closed host step otherwise = otherwise
 
--- the ends that the log reports, each step that it doesn't report having ended well
+-- the ends that the log reports; each step that it does not report counts as succeeded
 abbrev pub columns_of : List Event → Columns
 columns_of [] host step = well_ended
 columns_of (event ∷ log) host step = told_in event host step (columns_of log host step)
@@ -36,16 +36,16 @@ columns_of (event ∷ log) host step = told_in event host step (columns_of log h
 abbrev pub gives : Columns → Work → Ending → Type 0
 gives columns work ending = ending ≡ columns work.host work.step
 
--- the columns have the end of each program that the log reports; what is settled without one they need not say
+-- the columns have the end of each program that the log reports; steps settled without a program don't matter
 abbrev pub Tells : Columns → Roll → List Event → Type 0
 Tells columns roll log = AreTold (gives columns) roll (start_state roll) log
 
--- what a legal log tells can be given by columns: those of its own reports
+-- some columns match every legal log: those of its own reports
 abbrev pub LogsHaveColumns : Type 0
 LogsHaveColumns =
     (roll : Roll) (log : List Event) → IsLegal roll (start_state roll) log → Tells (columns_of log) roll log
 
--- the step that fails on each host by itself
+-- the step that fails on each host on its own
 abbrev pub fails_by : Roll → Columns → Fails
 fails_by roll columns host =
     failing_step (whole_track roll.play (roll.known host) (columns host))
@@ -55,20 +55,20 @@ abbrev pub halt_by : Roll → Columns → List ℕ → Option ℕ
 halt_by roll columns batch =
     halt (fails_by roll columns) batch roll.play.max_fail (length roll.play.steps.items)
 
--- how many steps the hosts of a batch have been through that ended so
+-- how many steps the hosts of a batch with this end have passed
 abbrev pub steps_until : Roll → Option ℕ → ℕ
 steps_until roll None = length roll.play.steps.items
 steps_until roll (Some halt) = suc halt
 
--- the batch has halted where its hosts by themselves say that it does, and as many have failed; each has the rows of its track up to there; once the batch
--- is closed, the statuses of the whole fleet are those at its opening, but for what each of its hosts becomes by its own failing step
+-- the batch has halted as its hosts on their own decide, with as many failures; each host has the rows of its track
+-- up to there; closing the batch changes only the statuses of its hosts, each by its own failing step
 pub record EndsByColumns (roll : Roll) (columns : Columns) (state : State) (halt : Option ℕ) : Type 0 where
   pub halts : halt ≡ halt_by roll columns state.batch
   pub failed : failures state ≡ failed_in (fails_by roll columns) state.batch halt
   pub rows : (host : ℕ) → has_number host state.batch ≡ true → state.rows host ≡ track roll.play (roll.known host) (columns host) (steps_until roll halt)
   pub statuses : (next roll state closed).statuses ≡ statuses_after halt (fails_by roll columns) state.batch state.opening
 
--- a batch ends as its hosts do by themselves, whoever worked on them, in whatever order and beside whom
+-- a batch ends as its hosts do on their own, whichever workers served them, in any order and with any other hosts
 abbrev pub BatchesEndByColumns : Type 0
 BatchesEndByColumns =
     (roll : Roll) (log : List Event) (columns : Columns) (halt : Option ℕ) → IsLegal roll (start_state roll) log → Tells columns roll log

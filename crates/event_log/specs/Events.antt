@@ -1,9 +1,9 @@
--- The events of a roll.
+-- The events of a run of one play.
 use Rattle.std.specs.Prelude.{ℕ, Bool, true, false, List}
 use Rattle.host_track.specs.Endings.{Ending}
 
--- waiting hosts are set aside; a batch of hosts is opened; a worker takes a host for a step; the step ended so on the host;
--- the step is over for the whole batch; the batch is closed
+-- waiting hosts are held; a batch of hosts is opened; a worker takes a host for a step; the step ended so on the
+-- host; the step has ended for the complete batch; the batch is closed
 pub data Event : Type 0 where
   set_aside : List ℕ → Event
   opened : List ℕ → Event
@@ -12,7 +12,7 @@ pub data Event : Type 0 where
   passed : ℕ → Event
   closed : Event
 
--- the event is of work on a host: a worker takes it, or reports it
+-- the event is work on a host: a worker takes it, or reports it
 abbrev pub is_work : Event → Bool
 is_work (set_aside hosts) = false
 is_work (opened batch) = false
@@ -21,7 +21,7 @@ is_work (reported host step ending) = true
 is_work (passed step) = false
 is_work closed = false
 
--- the event goes on with the open batch: it is work on a host, or passes a step
+-- the event continues the open batch: it is work on a host, or passes a step
 abbrev pub is_inside : Event → Bool
 is_inside (set_aside hosts) = false
 is_inside (opened batch) = false

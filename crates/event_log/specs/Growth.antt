@@ -1,4 +1,4 @@
--- A log and what goes on from it.
+-- A log and its continuations.
 use Rattle.std.specs.Prelude.{◌≡◌, ℕ, ◌≤◌, Bool, true, false, List, [], ◌∷◌, ◌++◌, count_by}
 use Rattle.std.specs.List.{list_all}
 use Rattle.fleet_index.specs.NumberLists.{has_number}
@@ -11,22 +11,22 @@ use Rattle.event_log.specs.Logs.{Allowed, IsLegal, end_state, next}
 use Rattle.event_log.specs.Columns.{Columns, Tells}
 use Rattle.event_log.specs.Changes.{IsLeft}
 
--- the state after one event more
+-- the state after one more event
 abbrev pub StateAfterEvent : Type 0
 StateAfterEvent =
     (roll : Roll) (log : List Event) (event : Event) → end_state roll (log ++ event ∷ []) ≡ next roll (end_state roll log) event
 
--- a legal log may go on with each event that is allowed at its end
+-- a legal log can continue with each event that is allowed at its end
 abbrev pub LegalLogsGrow : Type 0
 LegalLogsGrow =
     (roll : Roll) (log : List Event) (event : Event) → IsLegal roll (start_state roll) log → Allowed roll (end_state roll log) event → IsLegal roll (start_state roll) (log ++ event ∷ [])
 
--- a beginning of a legal log is legal
+-- a prefix of a legal log is legal
 abbrev pub BeginningsAreLegal : Type 0
 BeginningsAreLegal =
     (roll : Roll) (log more : List Event) → IsLegal roll (start_state roll) (log ++ more) → IsLegal roll (start_state roll) log
 
--- columns that a log tells its beginning tells too
+-- columns that match a log match each prefix of it
 abbrev pub PrefixKeepsColumns : Type 0
 PrefixKeepsColumns =
     (columns : Columns) (roll : Roll) (log more : List Event) → Tells columns roll (log ++ more) → Tells columns roll log
@@ -37,28 +37,28 @@ pub record IsWithinBatch (before after : State) : Type 0 where
   pub opening : after.opening ≡ before.opening
   pub others : (host : ℕ) → has_number host before.batch ≡ false → IsLeft before after host
 
--- and the batch is at the same step, or as much over
+-- likewise, and the batch is at the same step, or has ended in the same way
 pub record IsWithinStep (before after : State) : Type 0 where
   pub phase : after.phase ≡ before.phase
   pub inside : IsWithinBatch before after
 
--- claims and reports alone leave the batch at its step, and all other hosts as they are
+-- claims and reports leave the batch at its step, and all other hosts as they are
 abbrev pub WorkStaysWithinStep : Type 0
 WorkStaysWithinStep =
     (roll : Roll) (log more : List Event) → IsLegal roll (start_state roll) (log ++ more) → list_all is_work more ≡ true → IsWithinStep (end_state roll log) (end_state roll (log ++ more))
 
--- claims, reports and barriers alone leave the open batch the one that was opened, and all other hosts as they were then
+-- claims, reports and passed steps leave the opened batch open, and all other hosts as they were at its opening
 abbrev pub BatchesStayTheirs : Type 0
 BatchesStayTheirs =
     (roll : Roll) (log more : List Event) (batch : List ℕ) → IsLegal roll (start_state roll) (log ++ opened batch ∷ more) → list_all is_inside more ≡ true
     → IsWithinBatch (next roll (end_state roll log) (opened batch)) (end_state roll (log ++ opened batch ∷ more))
 
--- where no batch is open, nobody is in one
+-- if no batch is open, no host is in one
 abbrev pub ClosedBatchIsEmpty : Type 0
 ClosedBatchIsEmpty =
     (roll : Roll) (log : List Event) → IsLegal roll (start_state roll) log → (end_state roll log).phase ≡ between → (end_state roll log).batch ≡ []
 
--- where no batch is at a step, no claim is out
+-- if no batch is at a step, no claim is outstanding
 abbrev pub NoClaimOutsideSteps : Type 0
 NoClaimOutsideSteps =
     (roll : Roll) (log : List Event) → IsLegal roll (start_state roll) log → ((step : ℕ) → (end_state roll log).phase ≡ working step → ⊥) → (end_state roll log).out ≡ []
@@ -72,17 +72,17 @@ is_opening_of host (reported other step ending) = false
 is_opening_of host (passed step) = false
 is_opening_of host closed = false
 
--- each host stands in at most one batch of a play
+-- each host is in at most one batch of a play
 abbrev pub NoHostIsOpenedTwice : Type 0
 NoHostIsOpenedTwice =
     (roll : Roll) (log : List Event) (host : ℕ) → IsLegal roll (start_state roll) log → count_by (is_opening_of host) log ≤ 1
 
--- a host that stood in no batch has no rows
+-- a host that was in no batch has no rows
 abbrev pub HostsOfNoBatchHaveNoRows : Type 0
 HostsOfNoBatchHaveNoRows =
     (roll : Roll) (log : List Event) (host : ℕ) → IsLegal roll (start_state roll) log → count_by (is_opening_of host) log ≡ 0 → (end_state roll log).rows host ≡ []
 
--- a host that no longer waits, and is in no open batch, stays as it is to the end of the log
+-- a host that no longer waits and is in no open batch stays as it is to the end of the log
 abbrev pub HostsBehindTheirBatchStay : Type 0
 HostsBehindTheirBatchStay =
     (roll : Roll) (log more : List Event) (host : ℕ) → IsLegal roll (start_state roll) (log ++ more)

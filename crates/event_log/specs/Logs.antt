@@ -1,4 +1,4 @@
--- Which logs of a roll are legal, and the state after each.
+-- The legal logs of a run, and the state after each.
 use Rattle.std.specs.Prelude.{◌≡◌, ℕ, ◌<◌, true, false, Option, Some, List, [], ◌∷◌, length}
 use Rattle.std.specs.List.{list_all, list_any}
 use Rattle.fleet_index.specs.NumberLists.{has_number}
@@ -14,7 +14,7 @@ use Rattle.event_log.specs.Rolls.{Roll, EndsAs}
 use Rattle.event_log.specs.Events.{Event, set_aside, opened, claimed, reported, passed, closed}
 use Rattle.event_log.specs.States.{State, Phase, between, working, ended, start_state, is_awaited, rows_with, with_rows, without, with_failure, phase_after, at_rest}
 
--- waiting hosts may be set aside at a boundary where each is held by a group without room
+-- waiting hosts may be held at a boundary if each is in a group without room
 pub record MaySetAside (roll : Roll) (state : State) (hosts : List ℕ) : Type 0 where
   pub boundary : state.phase ≡ between
   pub some : 0 < length hosts
@@ -28,7 +28,8 @@ pub record MayOpen (roll : Roll) (state : State) (batch : List ℕ) : Type 0 whe
   pub ready : are_ready state.statuses batch ≡ true
   pub fits : Fits roll.groups state.statuses batch
 
--- a host of the batch may be claimed once for the present step where that is due on it, while fewer claims than forks are out
+-- a host of the batch may be claimed once for the current step: the step is due on it, and fewer claims than forks
+-- are outstanding
 pub record MayClaim (roll : Roll) (state : State) (host step : ℕ) : Type 0 where
   pub at : state.phase ≡ working step
   pub inside : has_number host state.batch ≡ true
@@ -36,7 +37,7 @@ pub record MayClaim (roll : Roll) (state : State) (host step : ℕ) : Type 0 whe
   pub free : has_number host state.out ≡ false
   pub forks : length state.out < roll.forks
 
--- a host that is claimed may report once, with an end that its step may have
+-- a claimed host may report once, with an end that is possible for its step
 pub record MayReport (roll : Roll) (state : State) (host step : ℕ) (ending : Ending) : Type 0 where
   pub at : state.phase ≡ working step
   pub claimed : has_number host state.out ≡ true
@@ -44,7 +45,7 @@ pub record MayReport (roll : Roll) (state : State) (host step : ℕ) (ending : E
   pub is : step_at roll.play step ≡ Some task
   pub ends : EndsAs (asks (known_after roll.play (roll.known host) (state.rows host)) task) ending
 
--- the batch passes a step once each of its hosts on which it is due has reported it
+-- the batch may pass a step once each of its hosts on which the step is due has reported it
 pub record MayPass (roll : Roll) (state : State) (step : ℕ) : Type 0 where
   pub at : state.phase ≡ working step
   pub reported : list_any (λ host. is_awaited roll.play (state.rows host) step) state.batch ≡ false
@@ -54,7 +55,7 @@ pub record MayClose (state : State) : Type 0 where
   pub halt : Option ℕ
   pub at : state.phase ≡ ended halt
 
--- which events may come next
+-- the events that may come next
 abbrev pub Allowed : Roll → State → Event → Type 0
 Allowed roll state (set_aside hosts) = MaySetAside roll state hosts
 Allowed roll state (opened batch) = MayOpen roll state batch
@@ -63,7 +64,7 @@ Allowed roll state (reported host step ending) = MayReport roll state host step 
 Allowed roll state (passed step) = MayPass roll state step
 Allowed roll state closed = MayClose state
 
--- the state after a batch that ended so is closed
+-- the state after a batch with this end is closed
 abbrev pub closed_state : Phase → State → State
 closed_state between state = state
 closed_state (working step) state = state
@@ -87,16 +88,16 @@ next roll state (reported host step ending) =
 next roll state (passed step) = record state { phase = phase_after roll.play state step }
 next roll state closed = closed_state state.phase state
 
--- the state after these events, from the oldest on
+-- the state after these events, oldest first
 abbrev pub state_after : Roll → State → List Event → State
 state_after roll state [] = state
 state_after roll state (event ∷ log) = state_after roll (next roll state event) log
 
--- the state after a whole log
+-- the state after a complete log
 abbrev pub end_state : Roll → List Event → State
 end_state roll log = state_after roll (start_state roll) log
 
--- each event is allowed where it stands
+-- each event is allowed at its position
 abbrev pub IsLegal : Roll → State → List Event → Type 0
 IsLegal roll state [] = Unit {0}
 IsLegal roll state (event ∷ log) =

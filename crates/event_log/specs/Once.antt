@@ -1,4 +1,4 @@
--- No work is given out or told twice.
+-- No work is assigned or reported twice.
 use Rattle.std.specs.Prelude.{ℕ, ◌≤◌, nat_eq, Bool, false, ◌&&◌, List, count_by}
 use Rattle.event_log.specs.Rolls.{Roll}
 use Rattle.event_log.specs.Events.{Event, set_aside, opened, claimed, reported, passed, closed}
@@ -31,7 +31,7 @@ abbrev pub NoHostReportsTwice : Type 0
 NoHostReportsTwice =
     (roll : Roll) (log : List Event) (host step : ℕ) → IsLegal roll (start_state roll) log → count_by (is_report_of host step) log ≤ 1
 
--- no report without a claim before it: at every front at most as many as there are claims
+-- no report comes without an earlier claim: every prefix has at most as many reports as claims
 abbrev pub ReportsFollowClaims : Type 0
 ReportsFollowClaims =
     (roll : Roll) (log : List Event) (host step : ℕ) → IsLegal roll (start_state roll) log → count_by (is_report_of host step) log ≤ count_by (is_claim_of host step) log

@@ -1,4 +1,4 @@
--- What a step asks of a host, as a worker is given it.
+-- What a step requests of a host, as a worker receives it.
 use Rattle.std.specs.Prelude.{◌≡◌, map, string_bytes}
 use Rattle.play_model.specs.Results.{row_of}
 use Rattle.host_track.specs.Endings.{ending_of, table_row}
@@ -10,7 +10,7 @@ abbrev pub request_of : WorkItem → Request
 request_of (Job words) = job (map string_bytes words.items)
 request_of (Settled outcome row) = settled (ending_of outcome)
 
--- with what is settled comes its row
+-- settled work comes with its row
 abbrev pub HasRow : WorkItem → Type 0
 HasRow (Job words) = Unit {0}
 HasRow (Settled outcome row) = row_of row ≡ table_row (ending_of outcome)

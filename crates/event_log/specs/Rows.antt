@@ -1,4 +1,4 @@
--- What is found of a row of a host.
+-- How a row of a host is judged.
 use Rattle.std.specs.Prelude.{◌≡◌, ℕ, Option, Some, List, option_map}
 use Rattle.std.specs.Borrow.{Bor}
 use Rattle.play_model.specs.declared.step.Step.{Step}
@@ -14,12 +14,12 @@ use Rattle.event_log.specs.declared.entered.Entered.{Entered}
 abbrev pub undefined_name : Entered → Option (List ℕ)
 undefined_name entered = option_map (λ (name : Bor (List ℕ)). name.now) entered.undefined
 
--- how the end of the step was judged on the host as its rows stand, and the name that a condition wanted
+-- how the end of the step was judged on the host with its rows so far, and the undefined name that a condition read
 pub record IsFound (roll : Roll) (state : State) (host : ℕ) (task : Step) (ending : Ending) (entered : Entered) : Type 0 where
   pub judged : entered.judged ≡ (finding_of (known_after roll.play (roll.known host) (state.rows host)) task ending).judged
   pub undefined : undefined_name entered ≡ undefined_in (known_after roll.play (roll.known host) (state.rows host)) task ending
 
--- the same of the step at this place
+-- likewise for the step at this index
 abbrev pub IsFoundAt : Roll → State → ℕ → ℕ → Ending → Entered → Type 0
 IsFoundAt roll state host step ending entered =
     (task : Step) → step_at roll.play step ≡ Some task → IsFound roll state host task ending entered

@@ -1,4 +1,4 @@
--- The state of a roll of many steps.
+-- The state of a run of one play with many steps.
 use Rattle.std.specs.Prelude.{ℕ, suc, Bool, ◌&&◌, not, nat_lt, cond, Option, Some, None, List, [], ◌++◌, length, slice_set, if◌then◌else◌, nat_eq, filter, count_by}
 use Rattle.std.specs.List.{list_all, list_any}
 use Rattle.fleet_states.specs.declared.status.Status.{Status}
@@ -16,8 +16,8 @@ pub data Phase : Type 0 where
   working : ℕ → Phase
   ended : Option ℕ → Phase
 
--- the hosts of the open batch; the statuses at its opening, or at the last one's where none is open, or at the start; the hosts of
--- the batch that a worker has taken and not reported; each host's rows in this play
+-- the hosts of the open batch; the statuses at its opening, at the last opening if none is open, or at the start; the
+-- hosts of the batch that a worker has taken and not reported; each host's rows in this play
 pub record State : Type 0 where
   pub statuses : List Status
   pub phase : Phase
@@ -30,7 +30,7 @@ abbrev pub start_state : Roll → State
 start_state roll =
     record { statuses = roll.start; phase = between; batch = []; opening = roll.start; out = []; rows = λ host. [] }
 
--- a row of the step stands among them
+-- the list contains a row of the step
 abbrev pub has_row : List Entry → ℕ → Bool
 has_row rows step = list_any (λ (entry : Entry). nat_eq entry.step step) rows
 
@@ -38,7 +38,7 @@ has_row rows step = list_any (λ (entry : Entry). nat_eq entry.step step) rows
 abbrev pub is_awaited : Play → List Entry → ℕ → Bool
 is_awaited play rows step = is_due play rows step && not (has_row rows step)
 
--- the rows of a host after one more step that ended so
+-- the rows of a host after one more step with this end
 abbrev pub rows_with : Roll → ℕ → List Entry → ℕ → Ending → List Entry
 rows_with roll host rows step ending =
     rows ++ row_at (known_after roll.play (roll.known host) rows) (step_at roll.play step) step ending
@@ -64,13 +64,13 @@ is_dead state = list_all (λ host. has_failed (state.rows host)) state.batch
 abbrev pub is_last : Play → ℕ → Bool
 is_last play step = not (nat_lt (suc step) (length play.steps.items))
 
--- the batch halts where too many have failed; else it ends with the last step, or where every host has failed; else the next
--- step begins
+-- the batch halts if too many hosts have failed; otherwise it ends with the last step, or if every host has failed;
+-- otherwise the next step starts
 abbrev pub phase_after : Play → State → ℕ → Phase
 phase_after play state step =
     if is_past play.max_fail (failures state) (length state.batch) then ended (Some step) else (if is_last play step then ended None else (if is_dead state then ended None else working (suc step)))
 
--- what becomes of a host that is at work when its batch is closed
+-- the status of a host that is running when its batch is closed
 abbrev pub resting : Option ℕ → Status
 resting None = Updated
 resting (Some halt) = Halted

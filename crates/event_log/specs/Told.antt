@@ -1,4 +1,4 @@
--- What a log says of programs, against what may be told of each.
+-- The ends that a log reports of programs, compared with those that may be reported of each.
 use Rattle.std.specs.Prelude.{◌≡◌, ℕ, Some, List, [], ◌∷◌}
 use Rattle.play_model.specs.declared.step.Step.{Step}
 use Rattle.host_track.specs.Endings.{Ending}
@@ -15,17 +15,17 @@ pub record Work : Type 0 where
   pub step : ℕ
   pub words : List (List ℕ)
 
--- what a step asks of a host as its rows stand
+-- what a step requests of a host with its rows so far
 abbrev pub asked_of : Roll → State → ℕ → Step → Request
 asked_of roll state host task =
     asks (known_after roll.play (roll.known host) (state.rows host)) task
 
--- a program that is asked for ends in a way that may be told of it; of what is settled without one nothing is asked here
+-- a requested program ends in a way that may be reported of it; settled work is not restricted here
 abbrev pub MayEnd : (Work → Ending → Type 0) → ℕ → ℕ → Request → Ending → Type 0
 MayEnd may host step (job words) ending = may (record { host = host; step = step; words = words }) ending
 MayEnd may host step (settled told) ending = Unit {0}
 
--- what an event says of a program may be told of it
+-- what an event reports of a program may be reported of it
 abbrev pub MayTell : (Work → Ending → Type 0) → Roll → State → Event → Type 0
 MayTell may roll state (set_aside hosts) = Unit {0}
 MayTell may roll state (opened batch) = Unit {0}
@@ -35,7 +35,7 @@ MayTell may roll state (reported host step ending) =
 MayTell may roll state (passed step) = Unit {0}
 MayTell may roll state closed = Unit {0}
 
--- so does each event of a log that goes on from this state
+-- so may that of each event of a log that continues from this state
 abbrev pub AreTold : (Work → Ending → Type 0) → Roll → State → List Event → Type 0
 AreTold may roll state [] = Unit {0}
 AreTold may roll state (event ∷ log) = MayTell may roll state event × AreTold may roll (next roll state event) log

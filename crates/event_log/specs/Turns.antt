@@ -1,4 +1,4 @@
--- Where the hosts of a batch are with the present step.
+-- The progress of the hosts of a batch in the current step.
 use Rattle.std.specs.Prelude.{◌≡◌, ℕ, nat_lt, Bool, true, false, cond, ◌&&◌, Option, Some, None, List, filter, slice_get, slice_index_or}
 use Rattle.fleet_index.specs.NumberLists.{has_number}
 use Rattle.play_model.specs.declared.play.Play.{Play}
@@ -9,7 +9,7 @@ use Rattle.event_log.specs.declared.stage.Stage.TheVariants.{Between, Working, E
 use Rattle.event_log.specs.declared.turn.Turn.{Turn}
 use Rattle.event_log.specs.declared.turn.Turn.TheVariants.{Over, Due, Out}
 
--- the step is one of so many, where a batch is at one
+-- the step is one of the `steps` steps, if a batch is at one
 abbrev pub is_within : ℕ → Stage → Bool
 is_within steps Between = true
 is_within steps (Working step) = nat_lt step steps
@@ -26,7 +26,7 @@ is_out Over = false
 is_out Due = false
 is_out (Out asked) = true
 
--- nothing is awaited of a number that no host has
+-- nothing is awaited of a number without a host
 abbrev pub turn_at : List Turn → ℕ → Turn
 turn_at turns host = slice_index_or turns host Over
 
@@ -46,7 +46,7 @@ failed_by (Some summary) = summary.failed
 abbrev pub failed_at : List Summary → ℕ → Bool
 failed_at summaries host = failed_by (slice_get summaries host)
 
--- the hosts of the batch that pass are due now, and stand in the line
+-- the hosts of the batch that pass are due now, and are in the queue
 pub record HaveLinedUp (due : ℕ → Bool) (batch : List ℕ) (old new : List Turn) (waiting : List ℕ) : Type 0 where
   pub turns : (host : ℕ) → turn_at new host ≡ cond (has_number host batch && due host) Due (turn_at old host)
   pub line : waiting ≡ filter due batch

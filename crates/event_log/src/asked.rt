@@ -1,11 +1,11 @@
-//! What a step asks of a host, twice.
+//! Copies of a step's request.
 ghost use Rattle.std.specs.Prelude.{◌≡◌, IfOk, map, string_bytes};
 ghost use Rattle.host_track.specs.Asking.{asked_as};
 
 use host_track::StepRequest;
 use std::alloc::{AllocError, Global};
 
-/// An equal one. It fails for want of memory alone.
+/// Returns an equal request. Fails only if an allocation fails.
 pub(crate) fn copy_of(alloc: Global, asked: &StepRequest) -> Result<StepRequest, AllocError>
     ensures { IfOk result (λ copy. asked_as copy ≡ asked_as asked.now) }
 {

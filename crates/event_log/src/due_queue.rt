@@ -1,4 +1,4 @@
-//! Who is due.
+//! The hosts that are due.
 ghost use Rattle.std.specs.Prelude.{◌≡◌, ◌<◌, ◌≤◌, IsTrue, length, drop, slice_set};
 ghost use Rattle.fleet_index.specs.NumberLists.{are_below};
 ghost use Rattle.domains.specs.Ids.{host_numbers};
@@ -10,8 +10,8 @@ use group_tree::HostId;
 use host_track::Summary;
 use play_model::Play;
 
-/// Puts the hosts of the batch on which the step is due at the end of the line, in the order of the batch, and answers where the
-/// first of them stands. It takes no memory.
+/// Puts the hosts of the batch on which the step is due at the end of the queue, in batch order. Returns the index of
+/// the first one. Does not allocate.
 pub(crate) fn enqueue_due(
     play: &Play,
     step: usize,

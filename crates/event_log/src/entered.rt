@@ -1,8 +1,8 @@
-//! What was found of a row that was entered.
+//! The result of entering a row.
 use host_track::Judged;
 
-/// How the end of a step was judged on a host; the name without a value that a condition of the step wanted, if it did; and whether the host
-/// has failed.
+/// How the end of a step was judged on a host, and whether the host has failed. `undefined` is the undefined name
+/// that a condition of the step read, if any.
 #[derive(Clone, Copy, Debug)]
 pub struct Entered<'p> {
     pub judged: Judged,

@@ -1,4 +1,4 @@
-//! Which events a roll may have, what holds of every legal log, and the running state of its open batch.
+//! The events of a run of one play, the laws of every legal log, and the running state of its open batch.
 #![tactic(auto)]
 
 mod asked;

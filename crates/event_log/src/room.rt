@@ -1,4 +1,4 @@
-//! Room for what is left of each host when a roll is over.
+//! Memory for the results of each host at the end of a run.
 ghost use Rattle.std.specs.Prelude.{◌≡◌, ◌≤◌, ◌<◌, ◌++◌, ◌∷◌, [], IfOk, length, map, vec_capacity, vec_len};
 ghost use Rattle.host_track.specs.Hosts.{known_of, without_debt};
 
@@ -6,7 +6,7 @@ use host_track::{Counts, Summary};
 use host_vars::Vars;
 use std::alloc::{AllocError, Global};
 
-/// Empty lists with places for so many hosts, so that the end of a roll takes no memory.
+/// Empty lists with capacity for each host, so that the end of a run does not allocate.
 #[derive(Drop)]
 pub(crate) struct Room {
     vars: Vec<Vars>,
@@ -25,7 +25,7 @@ impl Room {
         Ok(Room { vars, counts })
     }
 
-    /// The variables of each host, which owes nothing any more, and its counts, in the order of the hosts.
+    /// Returns the variables of each host, which then owes nothing, and its counts, in the order of the hosts.
     pub(crate) fn filled(self, summaries: Vec<Summary>) -> (Vec<Vars>, Vec<Counts>)
         requires vars { length summaries.items ≤ vec_capacity self.vars }
         requires counts { length summaries.items ≤ vec_capacity self.counts }
@@ -45,7 +45,7 @@ impl Room {
     }
 }
 
-/// Puts an item at the end, where there is room.
+/// Appends an item within the capacity.
 fn put<T: Drop>(items: &mut Vec<T>, item: T)
     requires { vec_len items.old < vec_capacity items.old }
     ensures items { items.new.items ≡ items.old.items ++ item ∷ [] }

@@ -1,4 +1,4 @@
-//! Where a host is with the present step.
+//! The progress of a host in the current step.
 ghost use Rattle.std.specs.Prelude.{◌≡◌};
 ghost use Rattle.event_log.specs.Turns as spec;
 
@@ -6,11 +6,12 @@ use host_track::StepRequest;
 
 #[derive(Debug, Drop)]
 pub(crate) enum Turn {
-    /// Nothing is awaited: the step is not due on the host, or the host has reported it, or it is in no open batch.
+    /// Nothing is awaited: the step is not due on the host, the host has reported it, or the host is in no open
+    /// batch.
     Over,
-    /// The step is due, and nobody has taken it.
+    /// The step is due, and no worker has taken it.
     Due,
-    /// A worker has taken it. This is what the step asks of the host.
+    /// A worker has taken it, with this request.
     Out(StepRequest),
 }
 

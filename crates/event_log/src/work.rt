@@ -1,4 +1,4 @@
-//! What a roll keeps of its hosts and of the open batch.
+//! What a run stores of its hosts and of the open batch.
 ghost use Rattle.std.specs.Prelude.{◌≡◌, ◌≤◌, true, length, vec_capacity};
 ghost use Rattle.fleet_index.specs.NumberLists.{are_below};
 ghost use Rattle.domains.specs.Ids.{host_numbers};
@@ -20,8 +20,8 @@ use group_tree::HostId;
 use host_track::Summary;
 use play_model::Play;
 
-/// For each host of the fleet, by its number, the summary of its rows and where it is with the present step; and the open batch.
-/// The hosts that are due and not taken stand in `line` from `next` on, in the order of the batch.
+/// For each host of the fleet, by number, the summary of its rows and its progress in the current step; and the open
+/// batch. The hosts that are due and not taken are in `line` from `next` on, in batch order.
 #[derive(Drop)]
 pub struct BatchWork<'p> {
     play: &'p Play,

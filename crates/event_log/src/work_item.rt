@@ -1,4 +1,4 @@
-//! What a worker is given for a host.
+//! The work that a worker receives for a host.
 ghost use Rattle.std.specs.Prelude.{◌≡◌, IfOk};
 ghost use Rattle.host_track.specs.Asking.{asked_as};
 ghost use Rattle.event_log.specs.Requests.{HasRow, request_of};
@@ -11,11 +11,11 @@ use std::alloc::{AllocError, Global};
 pub enum WorkItem {
     /// The program and its arguments.
     Job { words: Vec<String> },
-    /// No program is to run: the step ends so. `row` is the outcome's.
+    /// No program is to run, because the step has already ended. `row` is the row of the outcome.
     Settled { outcome: Outcome, row: Registered },
 }
 
-/// What is asked, with its row where it is settled. It fails for want of memory alone.
+/// Returns the request, with its row if it is settled. Fails only if an allocation fails.
 pub(crate) fn given_of(alloc: Global, asked: StepRequest) -> Result<WorkItem, AllocError>
     ensures same { IfOk result (λ given. request_of given ≡ asked_as asked) }
     ensures row { IfOk result HasRow }

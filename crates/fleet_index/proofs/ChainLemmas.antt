@@ -10,7 +10,7 @@ use Rattle.fleet_index.specs.NumberLists.{has_number}
 use Rattle.fleet_index.specs.Chains.{ends_before, IsNestedChain, IsLeastCrossingPair}
 use Rattle.fleet_index.proofs.RisingLemmas.{Ascends, has_number-within}
 
--- the search as it is made, with the chain's last group at hand
+-- the search as the code does it, with the chain's last group given
 pub ending_at_last : (subtree_ends : List ℕ) (groups : List GroupId) (top : GroupId) (answer : Option ℕ) → 0 < length groups
     → top ≡ get_or groups (length groups - 1) (record { index = 0 }) → answer ≡ find (λ group. ends_before subtree_ends group top.index) (group_numbers groups)
     → find (λ group. ends_before subtree_ends group (get_or (group_numbers groups) (length (group_numbers groups) - 1) 0)) (group_numbers groups) ≡ answer
@@ -70,7 +70,7 @@ found_none p (y ∷ xs) n e h = by_case (found_none p xs n) (p y) refl e (nat_eq
     by_case later false q e true r = ap p (eqb-true n y r) ∙ q
     by_case later false q e false r = later e (sym (ap (λ b. b || has_number n xs) r) ∙ h)
 
--- the last of rising numbers is the greatest
+-- the last of ascending numbers is the greatest
 pub last_greatest : (low high : ℕ) (xs : List ℕ) (n d : ℕ) → Ascends low high xs → has_number n xs ≡ true → n ≤ get_or xs (length xs - 1) d
 last_greatest low high [] n d up h = absurd (cc)
 last_greatest low high (x ∷ []) n d up h = by_case (nat_eq n x) refl
@@ -131,7 +131,7 @@ module _ (subtree_ends chain : List ℕ) (up : Ascends 0 (length subtree_ends) c
               let crosses = subst (λ (g : ℕ). ends_before subtree_ends g later ≡ true) (sym same) q in
               inr (same, found_least (nat_lt (get_or subtree_ends first 0)) 0 (length subtree_ends) chain second later up f k crosses)
 
-  -- where some group ends before the last one, something comes past it
+  -- if some group ends before the last one, there is a group past its end
   pub crossing_some : (first : ℕ) → find ends_early chain ≡ Some first → find (nat_lt (get_or subtree_ends first 0)) chain ≡ None → 0 < length chain → ⊥
   crossing_some first e f some =
       let a = found_in ends_early chain first e in

@@ -1,4 +1,4 @@
--- What a binary search over names in the order of their bytes says.
+-- The result of a binary search over names in byte order.
 use Rattle.std.proofs.Common.{◌≡◌, ℕ, ◌+◌, ◌≤◌, ◌<◌, Bool, true, false, IsFalse, length, get_or, List, [], ◌∷◌, map, sym, ap, ◌∙◌, refl, subst, arith, Result}
 use Rattle.std.proofs.Common.{Ok, Err, MatchOption, MatchResult, inl, inr, ◌⊎◌}
 use Rattle.std.specs.Result.{result_ok}

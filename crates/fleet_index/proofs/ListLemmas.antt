@@ -1,4 +1,4 @@
--- Lists of lists by their numbers: what one of them is, and a write to one of them.
+-- Lists of lists by number: one of them, and a write to one of them.
 use Rattle.std.proofs.Common.{◌≡◌, ℕ, ◌<◌, length, List, [], ◌∷◌, ◌++◌, map, set, get_or, replicate, zero, suc, sym, ap, ◌∙◌, refl, arith}
 use Rattle.std.proofs.Common.{Global, Vec}
 use Rattle.std.proofs.lemmas.List.{map-set, map-id, map-append, get_or-map, length-map}
@@ -17,7 +17,7 @@ extended shown_of lists shown place old new more is inside here grown =
     let wrote : map shown_of (set lists place new) ≡ set (map shown_of lists) place (shown_of new) = map-set shown_of lists place new in
     wrote ∙ ap (λ (l : List (List ℕ)). set l place (shown_of new)) is ∙ ap (λ (l : List ℕ). set shown place l) (grown ∙ sym (ap (λ (l : List ℕ). l ++ more) read'))
 
--- a list that is lent, by its numbers
+-- a borrowed list, by number
 pub lent_list : {X : Type 0} (number : X → ℕ) (lists : List (Vec X Global)) (place : ℕ) (own : Vec X Global) (lent : List X) → place < length lists
     → own ≡ get_or lists place own → lent ≡ own.items → map number lent ≡ list_at (lists_by number lists) place
 lent_list {X} number lists place own lent within is same =
@@ -33,7 +33,7 @@ no_numbers {X} number lists count are =
     none zero = refl
     none (suc count) = ap (λ (lists : List (List ℕ)). [] ∷ lists) (none count)
 
--- numbers by themselves
+-- numbers themselves
 pub lists_by_itself : (lists : List (Vec ℕ Global)) → lists_by (λ number. number) lists ≡ map (λ (list : Vec ℕ Global). list.items) lists
 lists_by_itself [] = refl
 lists_by_itself (list ∷ lists) =

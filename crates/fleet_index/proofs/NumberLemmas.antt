@@ -1,4 +1,4 @@
--- Numbers in lists, and what holds of them.
+-- Numbers in lists, and their properties.
 use Rattle.std.proofs.Common.{◌≡◌, ℕ, zero, suc, ◌+◌, ◌≤◌, ◌<◌, Bool, true, false, ◌||◌, ◌&&◌, not, nat_eq, nat_lt, List, [], ◌∷◌, ◌++◌, length, get_or, take, sym, ap, ◌∙◌, refl, subst, arith, inl, inr, ◌⊎◌}
 use Rattle.std.specs.List.{list_all, list_any, range_with_len}
 use Rattle.std.proofs.lemmas.List.Folds.{list_any_at, list_any_more, list_any-append}
@@ -14,7 +14,7 @@ nat_eq_sym m n = by_case (cases_eq m n)
     by_case (inl e) = eq-eqb m n e ∙ sym (eq-eqb n m (sym e))
     by_case (inr d) = ne_eqb m n d ∙ sym (ne_eqb n m (λ e. d (sym e)))
 
--- what holds of each element holds of a number that stands in the list
+-- a property of each element holds for a number in the list
 pub list_all_number : (p : ℕ → Bool) (xs : List ℕ) (n : ℕ) → list_all p xs ≡ true → has_number n xs ≡ true → p n ≡ true
 list_all_number p [] n all here = absurd (cc)
 list_all_number p (x ∷ xs) n all here =
@@ -32,7 +32,7 @@ number_below bound xs n below here =
 pub number_at : (xs : List ℕ) (i : ℕ) → i < length xs → has_number (get_or xs i 0) xs ≡ true
 number_at xs i within = list_any_at (nat_eq (get_or xs i 0)) xs i 0 within (eq-eqb _ _ refl)
 
--- a number stands at one place of distinct numbers alone
+-- a number appears only once in distinct numbers
 pub distinct_fresh : (xs : List ℕ) (i : ℕ) → are_distinct xs ≡ true → i < length xs → has_number (get_or xs i 0) (take i xs) ≡ false
 distinct_fresh [] i d within = absurd (omega arith)
 distinct_fresh (x ∷ xs) zero d within = refl
@@ -57,7 +57,7 @@ are_distinct-push (x ∷ xs) y =
     shuffle false true false b = refl
     shuffle false false d b = refl
 
--- where no element passes, none that stands in the list does
+-- if no element passes, no number in the list does
 pub none_passes : (p : ℕ → Bool) (xs : List ℕ) (n : ℕ) → list_any p xs ≡ false → has_number n xs ≡ true → p n ≡ false
 none_passes p [] n none here = absurd (cc)
 none_passes p (x ∷ xs) n none here =
@@ -68,7 +68,7 @@ none_passes p (x ∷ xs) n none here =
     by_case later first (inl e) = ap p (eqb-true n x e) ∙ first
     by_case later first (inr e) = later e
 
--- rising numbers stand once
+-- ascending numbers appear once
 distinct_ascends : (low high : ℕ) (xs : List ℕ) → Ascends low high xs → are_distinct xs ≡ true
 distinct_ascends low high [] up = refl
 distinct_ascends low high (x ∷ xs) up =

@@ -1,4 +1,4 @@
--- The paths of groups that are numbered in preorder.
+-- The paths of groups numbered in preorder.
 use Rattle.std.proofs.Common.{◌≡◌, ℕ, zero, suc, ◌+◌, ◌-◌, ◌≤◌, ◌<◌, Bool, true, false, ◌||◌, ◌&&◌, not, cond, nat_eq, nat_lt, List, [], ◌∷◌, ◌++◌, length}
 use Rattle.std.proofs.Common.{get_or, take, sym, ap, ◌∙◌, refl, subst, arith, inl, inr, ◌⊎◌}
 use Rattle.std.specs.List.{list_all}
@@ -13,7 +13,7 @@ use Rattle.fleet_index.proofs.RisingLemmas.{Ascends, Ascends-higher, has_number-
 abbrev pub path_to : List ℕ → ℕ → List ℕ
 path_to depths group = list_at (paths_from [] 0 depths) group
 
--- the beginning of a group's path from which the next group's path goes on
+-- the prefix of a group's path with which the next group's path starts
 abbrev pub kept : List ℕ → ℕ → List ℕ
 kept depths group = take (get_or depths (suc group) 0) (path_to depths group)
 
@@ -22,7 +22,7 @@ length-paths_from path number [] = refl
 length-paths_from path number (depth ∷ depths) =
     ap suc (length-paths_from (take depth path ++ number ∷ []) (suc number) depths)
 
--- the path of the next group goes on from a beginning of this one's
+-- the path of the next group continues a prefix of this one's
 pub next_path : (path : List ℕ) (number : ℕ) (depths : List ℕ) (k : ℕ) → suc k < length depths
     → list_at (paths_from path number depths) (suc k) ≡ take (get_or depths (suc k) 0) (list_at (paths_from path number depths) k) ++ (suc (number + k)) ∷ []
 next_path path number [] k l = absurd (omega arith)
@@ -57,7 +57,7 @@ has-take n (suc d) (x ∷ xs) e = by_case (or_cases (nat_eq n x) (has_number n (
     by_case (inl s) later = or_left (nat_eq n x) (has_number n xs) s
     by_case (inr s) later = or_right (nat_eq n x) (has_number n xs) (later s)
 
--- what comes before a number of a beginning is in that beginning
+-- a number that comes before one in a prefix is in that prefix
 has-take-below : (n t d low high : ℕ) (xs : List ℕ) → Ascends low high xs → has_number t (take d xs) ≡ true → has_number n xs ≡ true → n ≤ t → has_number n (take d xs) ≡ true
 has-take-below n t zero low high xs up e f l = absurd (false≢true e)
 has-take-below n t (suc d) low high [] up e f l = absurd (false≢true e)
@@ -80,7 +80,7 @@ last_has : (n : ℕ) (xs : List ℕ) → has_number n (xs ++ n ∷ []) ≡ true
 last_has n xs =
     list_any-append (nat_eq n) xs (n ∷ []) ∙ or_right (has_number n xs) (has_number n (n ∷ [])) (ap (λ b. b || false) (eq-eqb n n refl))
 
--- the number stands on the path
+-- the path contains the number
 abbrev pub on_path : List ℕ → ℕ → ℕ → Bool
 on_path depths group number = has_number group (list_at (paths_from [] 0 depths) number)
 
@@ -105,7 +105,7 @@ on_own depths zero l = ap (has_number 0) (first_path depths l)
 on_own depths (suc k) l =
     ap (has_number (suc k)) (path_next depths k l) ∙ last_has (suc k) (kept depths k)
 
--- what is on the path of the next group, but for the group itself, is in the beginning that it goes on from
+-- what is on the path of the next group, except the group itself, is in the prefix that it continues
 pub on_next : (depths : List ℕ) (g k : ℕ) → suc k < length depths → g ≤ k → on_path depths g (suc k) ≡ has_number g (kept depths k)
 on_next depths g k l m =
     let before : Bool = has_number g (kept depths k) in
@@ -114,7 +114,7 @@ on_next depths g k l m =
     ∙ ap (λ b. before || (b || false)) (ne_eqb g (suc k) (λ e. omega (arith, e)))
     ∙ or-false before
 
--- the groups that have a group on their path stand in one run from it on
+-- the groups whose paths contain a group are one run that starts at it
 pub on_before : (depths : List ℕ) (g k : ℕ) → suc k < length depths → g ≤ k → on_path depths g (suc k) ≡ true → on_path depths g k ≡ true
 on_before depths g k l m e =
     has-take g (get_or depths (suc k) 0) (path_to depths k) (sym (on_next depths g k l m) ∙ e)
@@ -150,7 +150,7 @@ on_through depths g t (suc k) l e f = by_case (on_through depths g t k (omega ar
         ∙ has-take-below g t (get_or depths (suc k) 0) 0 (suc k) (path_to depths k) (path_ascends depths k (omega arith)) in_take (later there) over
 
 -- the last group at or below a group
--- a number below n passes and is no less than k
+-- a number below n passes and is at least k
 abbrev IsLastFrom : (ℕ → Bool) → ℕ → ℕ → ℕ → Type 0
 IsLastFrom test n k last = (test last ≡ true) × (k ≤ last) × (last < n)
 
@@ -171,7 +171,7 @@ last_where-is test (suc n) k l e = by_case (last_where-is test n k) (test n) ref
 abbrev last_under : List ℕ → ℕ → ℕ
 last_under depths group = last_where (on_path depths group) (length depths)
 
--- a group is on the path of those from it on to its last one
+-- a group is on the paths of those from it to its last one
 pub on_path-last : (depths : List ℕ) (g k : ℕ) → g ≤ k → k < length depths → on_path depths g k ≡ not (nat_lt (last_under depths g) k)
 on_path-last depths g k m l = by_case (cases_lt last k)
   where
@@ -193,7 +193,7 @@ on_path-last depths g k m l = by_case (cases_lt last k)
         let at_last : on_path depths g (k + (last_under depths g - k)) ≡ true = subst (λ (n : ℕ). on_path depths g n ≡ true) (omega (arith, q)) own.0 in
         on_run depths g k (last_under depths g - k) (omega (arith, q, own.2)) m at_last ∙ sym (ap not (le-ltb (last_under depths g) k q))
 
--- no path goes past the last group
+-- no path contains a number above the last group
 pub paths_below : (bound number : ℕ) (path depths : List ℕ) → Ascends 0 number path → number + length depths ≤ bound
     → list_all (are_below bound) (paths_from path number depths) ≡ true
 paths_below bound number path [] up l = refl

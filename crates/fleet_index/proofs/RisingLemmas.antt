@@ -1,4 +1,4 @@
--- Rising numbers: what stands in them says what they are.
+-- Ascending numbers: the numbers in them determine them.
 use Rattle.std.proofs.Common.{◌≡◌, ℕ, zero, suc, ◌+◌, ◌≤◌, ◌<◌, Bool, true, false, ◌||◌, ◌&&◌, cond, nat_eq, nat_lt, List, [], ◌∷◌, ◌++◌, length, get_or, take}
 use Rattle.std.proofs.Common.{filter, map, sym, ap, ◌∙◌, refl, subst, arith, add-one, inl, inr, ◌⊎◌}
 use Rattle.std.specs.List.{range_with_len}
@@ -44,12 +44,12 @@ has_number-within n low high (x ∷ xs) up e =
         let r = later (sym (ap (λ b. b || has_number n xs) s) ∙ e) in
         (omega (arith, up.0, r.0), r.1)
 
--- rising numbers are the numbers that pass the test that they pass
+-- ascending numbers are the numbers that pass the test that they pass
 -- the numbers after `low` that pass
 abbrev passing : (ℕ → Bool) → ℕ → ℕ → List ℕ
 passing p low count = filter p (range_with_len (low + 1) count)
 
--- a test says of each number from `low` on whether it is among these
+-- a test that decides of each number from `low` on whether it is among these
 abbrev Tells : (ℕ → Bool) → ℕ → ℕ → List ℕ → Type 0
 Tells p low count xs = (n : ℕ) → low ≤ n → n < low + count → has_number n xs ≡ p n
 
@@ -124,7 +124,7 @@ pub numbers_where_more : (p : ℕ → Bool) (n : ℕ) → numbers_where p (n + 1
 numbers_where_more p n =
     ap (filter p) (range_on 0 n n (omega arith)) ∙ filter-append p (range_with_len 0 n) (n ∷ [])
 
--- what passes stands in the list, and nothing else
+-- exactly the numbers that pass are in the list
 pub has_number-numbers_where : (p : ℕ → Bool) (bound n : ℕ) → has_number n (numbers_where p bound) ≡ (nat_lt n bound && p n)
 has_number-numbers_where p zero n = ap (λ b. b && p n) (sym (le-ltb n 0 (omega arith)))
 has_number-numbers_where p (suc bound) n =
@@ -166,14 +166,14 @@ pub below_at : (bound : ℕ) (xs : List ℕ) (i : ℕ) → are_below bound xs �
 below_at bound xs i e within =
     ltb-true (get_or xs i 0) bound (and_at (are_below bound) (λ n. nat_lt n bound) refl (λ _ _. refl) xs i 0 within e)
 
--- the same of what has the numbers
+-- likewise for what has the numbers
 pub number_below : {X : Type 0} (number : X → ℕ) (bound : ℕ) (xs : List X) (i : ℕ) (d : X) → are_below bound (map number xs) ≡ true → i < length xs
     → number (get_or xs i d) < bound
 number_below number bound xs i d e within =
     let below : get_or (map number xs) i 0 < bound = below_at bound (map number xs) i e (simp length-map within) in
     omega (arith, below, get_or-map number xs i d 0 within)
 
--- a number stands at one place of rising numbers alone
+-- a number appears only once in ascending numbers
 pub fresh : (low high : ℕ) (xs : List ℕ) (i : ℕ) → Ascends low high xs → i < length xs → has_number (get_or xs i 0) (take i xs) ≡ false
 fresh low high [] i up within = absurd (omega arith)
 fresh low high (x ∷ xs) zero up within = refl

@@ -1,4 +1,4 @@
--- One step of the loops that move running counts.
+-- One iteration of the loops that change running counts.
 use Rattle.std.proofs.Common.{◌≡◌, ℕ, ◌+◌, ◌-◌, ◌<◌, true, false, List, length, get_or, set, take, sym, ap, ◌∙◌, subst, arith, inl, inr, ◌⊎◌}
 use Rattle.std.proofs.lemmas.List.{get_or-map, get_or-set_same, get_or-set_other, length-map}
 use Rattle.group_tree.specs.declared.ids.GroupId.{GroupId}
@@ -72,7 +72,7 @@ module _ (bound : ℕ) (groups : List ℕ) (i : ℕ) (up : IsRising bound groups
       let none : bit (has_number (get_or groups i 0) (take i groups)) ≡ 0 = ap bit first_time in
       omega arith
 
--- the same of the groups as the code reads them
+-- likewise for the groups as the code reads them
 module _ (bound : ℕ) (groups : List GroupId) (i : ℕ) (d : GroupId) (up : IsRising bound (group_numbers groups)) (within : i < length groups) where
   inside : i < length (group_numbers groups)
   inside = omega (arith, within, length-map groups (λ (group : GroupId). group.index))

@@ -26,7 +26,7 @@ count_agree p q same [] = refl
 count_agree p q same (x ∷ xs) =
     count_by-cons p x xs ∙ ap (λ b. bit b + count_by p xs) (same x) ∙ ap (λ n. bit (q x) + n) (count_agree p q same xs) ∙ sym (count_by-cons q x xs)
 
--- tests that agree on what stands in the list
+-- tests that agree on the numbers in the list
 pub count_agree_in : (p q : ℕ → Bool) (xs : List ℕ) → ((x : ℕ) → has_number x xs ≡ true → p x ≡ q x) → count_by p xs ≡ count_by q xs
 count_agree_in p q [] same = refl
 count_agree_in p q (x ∷ xs) same =
@@ -41,11 +41,11 @@ count_none p none (x ∷ xs) =
     let first : count_by p (x ∷ xs) ≡ bit (p x) + count_by p xs = count_by-cons p x xs in
     omega (arith, count_none p none xs)
 
--- what a number adds to the count where it stands in the list
+-- what a number adds to the count if it is in the list
 abbrev pub member_bit : ℕ → List ℕ → (ℕ → Bool) → ℕ
 member_bit at xs test = cond (has_number at xs) (bit (test at)) 0
 
--- the tests agree but at one number, which stands in the list once at most
+-- the tests agree except at one number, which is in the list at most once
 pub count_change : (p q : ℕ → Bool) (at : ℕ) → ((x : ℕ) → (x ≡ at → ⊥) → p x ≡ q x) → (xs : List ℕ) → are_distinct xs ≡ true
     → count_by q xs + member_bit at xs p ≡ count_by p xs + member_bit at xs q
 count_change p q at same [] distinct = refl

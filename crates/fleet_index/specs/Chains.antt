@@ -14,7 +14,7 @@ abbrev pub IsNestedChain : List ℕ → List ℕ → Type 0
 IsNestedChain subtree_ends chain =
     (first second : ℕ) → has_number first chain ≡ true → has_number second chain ≡ true → ends_before subtree_ends first second ≡ false
 
--- the two cross, and no others that do come before them
+-- the two cross, and no crossing pair comes before them
 pub record IsLeastCrossingPair (subtree_ends chain : List ℕ) (first second : ℕ) : Type 0 where
   pub first_in : has_number first chain ≡ true
   pub second_in : has_number second chain ≡ true

@@ -3,7 +3,7 @@ use Rattle.std.specs.Prelude.{◌≡◌, ◌<◌, ◌≤◌, ℕ, suc, Bool, tru
 use Rattle.std.specs.List.{list_any}
 use Rattle.fleet_index.specs.NumberLists.{has_number, list_at, IsRising}
 
--- the paths of the groups from `number` on, after a group with this path; a depth is how many groups stand above
+-- the paths of the groups from `number` on, after a group with this path; a depth is the number of groups above
 abbrev pub paths_from : List ℕ → ℕ → List ℕ → List (List ℕ)
 paths_from path number [] = []
 paths_from path number (depth ∷ depths) =
@@ -13,12 +13,12 @@ paths_from path number (depth ∷ depths) =
 abbrev pub is_above : List (List ℕ) → List ℕ → ℕ → Bool
 is_above paths groups group = list_any (λ own. has_number group (list_at paths own)) groups
 
--- a row of the host stands in a group whose path has the group; a row is a host's and a group's number
+-- a row puts the host in a group whose path contains the group; a row is the number of a host and of a group
 abbrev pub is_member : List (List ℕ) → List (ℕ × ℕ) → ℕ → ℕ → Bool
 is_member paths rows group host =
     list_any (λ row. nat_eq host row.0 && has_number group (list_at paths row.1)) rows
 
--- a path rises and has no group after its own; the groups that have a group on their paths stand in one run from it on
+-- a path rises and has no group after its own; the groups whose paths contain a group are one run, from it on
 pub record ArePreorderPaths (paths : List (List ℕ)) : Type 0 where
   pub rising : (group : ℕ) → group < length paths → IsRising (suc group) (list_at paths group)
   pub run : (above group later : ℕ) → above ≤ group → group ≤ later → later < length paths → has_number above (list_at paths later) ≡ true

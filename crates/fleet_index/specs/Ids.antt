@@ -1,4 +1,4 @@
--- The numbers of hosts and groups as they are lent.
+-- The numbers of borrowed hosts and groups.
 use Rattle.std.specs.Prelude.{ℕ, List, Vec, map}
 use Rattle.std.specs.declared.alloc.Global.{Global}
 use Rattle.group_tree.specs.declared.ids.HostId.{HostId}
@@ -10,7 +10,7 @@ host_numbers hosts = map (λ (host : HostId). host.index) hosts
 abbrev pub group_numbers : List GroupId → List ℕ
 group_numbers groups = map (λ (group : GroupId). group.index) groups
 
--- several lists by the numbers of what stands in them
+-- several lists, by the numbers of their elements
 abbrev pub lists_by : {X : Type 0} → (X → ℕ) → List (Vec X Global) → List (List ℕ)
 lists_by {X} number lists = map (λ (list : Vec X Global). map number list.items) lists
 

@@ -2,28 +2,28 @@
 use Rattle.std.specs.Prelude.{◌≡◌, nat_lt, ℕ, Bool, true, ◌&&◌, not, nat_eq, List, [], ◌∷◌, filter, length, slice_index_or, zero, suc, cond}
 use Rattle.std.specs.List.{list_any, list_all, range_with_len}
 
--- the number stands in the list
+-- the list contains the number
 abbrev pub has_number : ℕ → List ℕ → Bool
 has_number number numbers = list_any (nat_eq number) numbers
 
--- no number stands twice
+-- no number appears twice
 abbrev pub are_distinct : List ℕ → Bool
 are_distinct [] = true
 are_distinct (number ∷ numbers) = not (has_number number numbers) && are_distinct numbers
 
--- 1 where a test passes, else 0
+-- 1 if a test passes, otherwise 0
 abbrev pub bit : Bool → ℕ
 bit test = cond test 1 0
 
--- the numbers below `count` that pass, rising
+-- the numbers below `count` that pass, ascending
 abbrev pub numbers_where : (ℕ → Bool) → ℕ → List ℕ
 numbers_where test count = filter test (range_with_len 0 count)
 
--- the list at a place, and none past the end
+-- the list at an index, or an empty one past the end
 abbrev pub list_at : List (List ℕ) → ℕ → List ℕ
 list_at lists place = slice_index_or lists place []
 
--- the greatest number below `count` that passes, and 0 where none does
+-- the greatest number below `count` that passes, or 0 if none does
 abbrev pub last_where : (ℕ → Bool) → ℕ → ℕ
 last_where test zero = 0
 last_where test (suc number) = cond (test number) number (last_where test number)

@@ -15,7 +15,7 @@ fn is_limited(limits: &[Option<u16>], group: usize) -> bool
     matches!(limits.get(group), Some(Some(_)))
 }
 
-/// The limited ones of some groups.
+/// Returns those of the groups that have a limit.
 fn limited_of(
     alloc: Global,
     groups: &[usize],
@@ -27,7 +27,7 @@ fn limited_of(
     for (index, group) in groups.iter().enumerate() {
         if is_limited(limits, *group) {
             if limited.is_empty() {
-                // one block, and none for a host without limited groups
+                // One allocation, and none for a host without limited groups.
                 limited.reserve(groups.len() - index)?;
             }
             limited.push(GroupId { index: *group })?;
@@ -36,7 +36,7 @@ fn limited_of(
     Ok(limited)
 }
 
-/// For each host its limited groups, from the first in preorder on.
+/// Returns, for each host, its limited groups in preorder.
 pub fn list_chains(
     alloc: Global,
     held: &NumberLists,
@@ -51,7 +51,7 @@ pub fn list_chains(
     Ok(chains)
 }
 
-/// Writes the number at each place of a path.
+/// Writes the number at each index on a path.
 fn mark_path(subtree_ends: &mut [usize], path: &[usize], number: usize)
     requires { IsTrue (are_below (length subtree_ends.old) path.now) }
     ensures { (group : ℕ) → group < length subtree_ends.old
@@ -62,7 +62,7 @@ fn mark_path(subtree_ends: &mut [usize], path: &[usize], number: usize)
     }
 }
 
-/// For each group the last one at or below it.
+/// Returns, for each group, the last one at or below it.
 pub fn list_subtree_ends(alloc: Global, paths: &NumberLists) -> Result<Vec<usize>, AllocError>
     requires { IsTrue (list_all (are_below (length paths.now)) paths.now) }
     ensures { IfOk result (λ subtree_ends. subtree_ends.items
@@ -75,7 +75,7 @@ pub fn list_subtree_ends(alloc: Global, paths: &NumberLists) -> Result<Vec<usize
     Ok(subtree_ends)
 }
 
-/// The first group past a bound.
+/// Returns the first group with a number above a bound.
 fn first_past(groups: &[GroupId], bound: usize) -> Option<usize>
     ensures { result ≡ find (nat_lt bound) (group_numbers groups.now) }
 {
@@ -87,7 +87,7 @@ fn first_past(groups: &[GroupId], bound: usize) -> Option<usize>
     None
 }
 
-/// The first group whose last one comes before `top`.
+/// Returns the first group whose last one comes before `top`.
 fn first_ending(groups: &[GroupId], subtree_ends: &[usize], top: usize) -> Option<usize>
     requires { IsTrue (are_below (length subtree_ends.now) (group_numbers groups.now)) }
     ensures value { result ≡ find (λ group. ends_before subtree_ends.now group top) (group_numbers groups.now) }
@@ -101,8 +101,8 @@ fn first_ending(groups: &[GroupId], subtree_ends: &[usize], top: usize) -> Optio
     None
 }
 
-/// The first two groups of a chain of which the second does not stand below the first; `subtree_ends` has for each group the
-/// last one at or below it.
+/// Returns the first two groups of a chain of which the second is not below the first. `subtree_ends` has, for each
+/// group, the last one at or below it.
 pub fn first_crossing(chain: &[GroupId], subtree_ends: &[usize]) -> Option<(usize, usize)>
     requires { IsRising (length subtree_ends.now) (group_numbers chain.now) }
     ensures { MatchOption result (IsNestedChain subtree_ends.now (group_numbers chain.now))

@@ -17,7 +17,7 @@ pub fn raise_counts(counts: &mut [usize], groups: &[GroupId])
     }
 }
 
-/// Takes 1 from the counts of these groups.
+/// Subtracts 1 from the counts of these groups.
 pub fn lower_counts(counts: &mut [usize], groups: &[GroupId])
     requires rising { IsRising (length counts.old) (group_numbers groups.now) }
     requires some { (group : ℕ) → has_number group (group_numbers groups.now) ≡ true → 0 < slice_index counts.old group }

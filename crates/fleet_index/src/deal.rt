@@ -1,4 +1,4 @@
-//! Hosts in the order in which they are dealt.
+//! Hosts in the order in which batches are dealt.
 ghost use Rattle.std.specs.Prelude.{◌≡◌, length, map, IfOk, All, IsTrue, IsPermutation};
 ghost use Rattle.std.specs.List.{range_with_len};
 ghost use Rattle.fleet_index.specs.NumberLists.{list_at, are_below};
@@ -8,7 +8,7 @@ ghost use Rattle.fleet_index.specs.DealOrder.{deal_key, numbered_bound, IsDealt,
 use group_tree::{GroupId, HostId};
 use std::alloc::{AllocError, Global};
 
-/// The number of the last group, counted from 1, and 0 where there is none.
+/// Returns the number of the last group, counted from 1, or 0 if there is none.
 fn deal_key(chain: &[GroupId]) -> usize
     requires { IsTrue (are_below numbered_bound (group_numbers chain.now)) }
     ensures { result ≡ deal_key (group_numbers chain.now) }
@@ -19,7 +19,7 @@ fn deal_key(chain: &[GroupId]) -> usize
     }
 }
 
-/// Each host's key with its number, in order.
+/// Returns each host's key with its number, in ascending order.
 fn list_keys(alloc: Global, chains: &[Vec<GroupId>]) -> Result<Vec<(usize, usize)>, AllocError>
     requires { All (λ chain. IsTrue (are_below numbered_bound chain)) (group_lists chains.now) }
     ensures { IfOk result (λ keys. keys.items
@@ -33,8 +33,8 @@ fn list_keys(alloc: Global, chains: &[Vec<GroupId>]) -> Result<Vec<(usize, usize
     Ok(keys)
 }
 
-/// The hosts by the innermost of their limited groups, those without one first, then by number; `chains` has each
-/// host's limited groups.
+/// Returns the hosts by the innermost of their limited groups, then by number. Hosts without a limited group come
+/// first. `chains` has each host's limited groups.
 pub fn list_deal_order(alloc: Global, chains: &[Vec<GroupId>]) -> Result<Vec<HostId>, AllocError>
     requires { All (λ chain. IsTrue (are_below numbered_bound chain)) (group_lists chains.now) }
     ensures each_once { IfOk result (λ order. IsPermutation (range_with_len 0 (length (group_lists chains.now))) (host_numbers order.items)) }
@@ -49,7 +49,7 @@ pub fn list_deal_order(alloc: Global, chains: &[Vec<GroupId>]) -> Result<Vec<Hos
     Ok(order)
 }
 
-/// Where each host stands in an order of all hosts.
+/// Returns the position of each host in an order of all hosts.
 pub fn list_deal_places(alloc: Global, order: &[HostId]) -> Result<Vec<usize>, AllocError>
     requires { IsPermutation (range_with_len 0 (length (host_numbers order.now))) (host_numbers order.now) }
     ensures { IfOk result (λ places. ArePlacesOf (host_numbers order.now) places.items) }

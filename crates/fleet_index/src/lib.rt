@@ -1,4 +1,4 @@
-//! Hosts and groups by their numbers: distinct names, paths, members, chains, the deal order and running counts.
+//! Hosts and groups by number: distinct names, paths, members, chains, the deal order and running counts.
 #![tactic(auto)]
 
 mod chains;

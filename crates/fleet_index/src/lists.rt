@@ -8,7 +8,7 @@ use crate::runs::{list_starts, place_seconds};
 use std::alloc::{AllocError, Global};
 use std::marker::Model;
 
-/// As many empty lists as `count`.
+/// Returns `count` empty lists.
 pub(crate) fn empty_lists<N: Drop>(alloc: Global, count: usize) -> Result<Vec<Vec<N>>, AllocError>
     ensures { IfOk result (λ lists. map (λ list. list.items) lists.items ≡ replicate count []) }
 {
@@ -19,7 +19,7 @@ pub(crate) fn empty_lists<N: Drop>(alloc: Global, count: usize) -> Result<Vec<Ve
     Ok(lists)
 }
 
-/// Where a list begins.
+/// Returns where a list starts.
 fn start_of(ends: &[usize], place: usize) -> usize
     requires { place ≤ length ends.now }
     ensures { result ≡ start_at ends.now place }
@@ -34,7 +34,7 @@ fn part(numbers: &[usize], start: usize, end: usize) -> &[usize]
     &numbers[start..end]
 }
 
-/// Lists of numbers, found by their place. They stand one after the other, so that no list takes memory of its own.
+/// Lists of numbers by index. They are concatenated, so no list allocates memory of its own.
 #[derive(Drop)]
 pub struct NumberLists {
     numbers: Vec<usize>,
@@ -62,7 +62,7 @@ impl NumberLists {
         }
     }
 
-    /// For each number below `count` the second numbers of the pairs that begin with it, in their order.
+    /// Returns, for each number below `count`, the second numbers of the pairs that start with it, in their order.
     pub(crate) fn by_first(
         alloc: Global,
         count: usize,
@@ -83,7 +83,7 @@ impl NumberLists {
         self.ends.len()
     }
 
-    /// The list at a place.
+    /// Returns the list at an index.
     pub fn at(&self, place: usize) -> &[usize]
         requires { place < length self.now }
         ensures { result.now ≡ list_at self.now place }

@@ -1,4 +1,4 @@
-//! Names in the order of their bytes.
+//! Names in byte order.
 ghost use Rattle.std.specs.Prelude.{◌≡◌, ◌<◌, length, map, IsFalse, MatchOption, OnOk, OnErr, slice_index_or, []};
 ghost use Rattle.std.specs.String.{string_bytes};
 ghost use Rattle.std.specs.List.Sorted.{IsStrictlySortedBy};
@@ -7,8 +7,8 @@ ghost use Rattle.fleet_index.specs.SortedNames.{name_cmp, sorted_names};
 
 use std::alloc::AllocError;
 
-/// Puts the names in the order of their bytes, each once. Names that come in a few sorted runs, as groups list them, are
-/// merged.
+/// Sorts the names by their bytes and removes duplicates. Names that come in a few sorted runs, as groups list them,
+/// are merged.
 pub fn make_distinct(names: &mut Vec<&str>) -> Result<(), AllocError>
     ensures ok { OnOk result (map (λ name. name.now) names.new.items ≡ sorted_names (map (λ name. name.now) names.old.items)) }
     ensures err { OnErr result (names.new.items ≡ names.old.items) }
@@ -18,7 +18,7 @@ pub fn make_distinct(names: &mut Vec<&str>) -> Result<(), AllocError>
     Ok(())
 }
 
-/// The place of a name among names in the order of their bytes.
+/// Returns the index of a name among names in byte order.
 pub fn find_name(names: &[String], name: &str) -> Option<usize>
     requires { IsStrictlySortedBy name_cmp (map string_bytes names.now) }
     ensures { MatchOption result (IsFalse (is_among name.now (map string_bytes names.now)))
@@ -27,7 +27,7 @@ pub fn find_name(names: &[String], name: &str) -> Option<usize>
     names.binary_search_by(|own| own.as_str().cmp(name)).ok()
 }
 
-/// The place of a name as `find_name` gives it, where it is likely to stand at `near`.
+/// Returns the same index as `find_name`. It tries `near` first, where the name probably is.
 pub fn find_name_near(names: &[String], near: usize, name: &str) -> Option<usize>
     requires { IsStrictlySortedBy name_cmp (map string_bytes names.now) }
     ensures { MatchOption result (IsFalse (is_among name.now (map string_bytes names.now)))

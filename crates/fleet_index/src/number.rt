@@ -1,4 +1,4 @@
-//! What stands for a number in a list: the number itself, or the host that has it.
+//! The element type of a list of numbers: the number itself, or the host that has it.
 ghost use Rattle.std.specs.Prelude.{◌≡◌, ℕ};
 
 use group_tree::HostId;
@@ -6,7 +6,7 @@ use group_tree::HostId;
 pub trait Number: Drop {
     ghost number: { Self → ℕ };
 
-    /// What has this number.
+    /// Returns the element with this number.
     fn of(index: usize) -> Self
         ensures { number result ≡ index };
 }

@@ -5,8 +5,8 @@ ghost use Rattle.fleet_index.specs.GroupPaths.{paths_from, ArePreorderPaths};
 use crate::lists::NumberLists;
 use std::alloc::{AllocError, Global};
 
-/// For each group in preorder the numbers from the outermost group down to it; `depths` says how many groups stand
-/// above each.
+/// Returns, for each group in preorder, the numbers from the outermost group down to it; `depths` has the number of
+/// groups above each.
 pub fn list_paths(alloc: Global, depths: &[usize]) -> Result<NumberLists, AllocError>
     ensures paths { IfOk result (λ paths. paths ≡ paths_from [] 0 depths.now) }
     ensures preorder { IfOk result (λ paths. ArePreorderPaths paths) }

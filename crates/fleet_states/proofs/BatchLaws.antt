@@ -1,4 +1,4 @@
--- Laws of halts and of what becomes of a batch's hosts.
+-- Laws of halts, and of the statuses of a batch's hosts after it.
 use Rattle.std.proofs.Common.{◌≡◌, ℕ, ◌*◌, ◌<◌, ◌≤◌, Bool, true, false, cond, Option, Some, None, List, length, refl, sym, ap, ◌∙◌, subst, arith, inl, inr, ◌⊎◌}
 use Rattle.std.proofs.lemmas.Bool.{cases_lt, le-ltb}
 use Rattle.std.proofs.lemmas.List.{ext_get_or}
@@ -88,7 +88,7 @@ own_failures_decide batch fails others agree =
       statuses = ends_alike batch fails others agree;
     }
 
--- no outcome of a batch is to wait or to run
+-- no outcome of a batch is waiting or running
 at_rest_after : (halt failing : Option ℕ) → IsFalse (is_waiting (status_after halt failing)) × IsFalse (is_running (status_after halt failing))
 at_rest_after None None = (refl, refl)
 at_rest_after None (Some failing) = (refl, refl)
@@ -111,7 +111,7 @@ none_waits_after halt fails batch statuses host here = by_case (cases_lt host (l
     by_case (inr past) =
         subst IsAtRest (sym (status_at-given_past (λ h. status_after halt (fails h)) batch statuses host past)) (refl, refl)
 
--- a batch of which no host fails
+-- a batch in which no host fails
 module _ (fails : Fails) (batch : List ℕ) (none : NoneFails fails batch) where
   nobody_failed : (step : ℕ) → failed_count fails batch step ≡ 0
   nobody_failed step =

@@ -10,11 +10,11 @@ use Rattle.fleet_index.proofs.TestCounts.{count_add, count_agree, count_change, 
 use Rattle.fleet_states.proofs.ReadyLemmas.{ready_waits}
 use Rattle.fleet_states.proofs.StatusLemmas.{status_at-changed, status_at-changed_idle, status_at-changed_past, status_at-past, status_at-set, status_at-set_other, waiting_not_down}
 
--- 1 where the host is down
+-- 1 if the host is down
 abbrev pub down_at : List Status → ℕ → ℕ
 down_at statuses host = bit (is_down (status_at statuses host))
 
--- a member that changes moves the count of its group alone
+-- a member that changes affects only the count of its group
 pub down_count-set : (statuses : List Status) (host : ℕ) (status : Status) (members : List ℕ) → host < length statuses → are_distinct members ≡ true
     → down_count (set statuses host status) members + cond (has_number host members) (bit (is_down (status_at statuses host))) 0
     ≡ down_count statuses members + cond (has_number host members) (bit (is_down status)) 0
@@ -33,7 +33,7 @@ down_count-set statuses host status members within distinct =
     same : (h : ℕ) → (h ≡ host → ⊥) → is_down (status_at statuses h) ≡ is_down (status_at (set statuses host status) h)
     same h apart = ap is_down (sym (status_at-set_other statuses host status h apart))
 
--- a host that stays down, or stays up, leaves every count
+-- a host that stays down, or stays up, changes no count
 pub down_count-set_same : (statuses : List Status) (host : ℕ) (status : Status) (members : List ℕ) → host < length statuses → is_down status ≡ is_down (status_at statuses host) → down_count (set statuses host status) members ≡ down_count statuses members
 down_count-set_same statuses host status members within alike =
     count_agree (λ h. is_down (status_at (set statuses host status) h)) (λ h. is_down (status_at statuses h)) (λ h. at h (cases_eq h host)) members
@@ -57,7 +57,7 @@ down_count-changed change hosts statuses members idle less =
     at h =
         subst (λ s. bit (is_down s) ≤ down_at statuses h) (sym (status_at-changed_idle change hosts statuses h idle)) (either (status_at statuses h) (has_number h hosts))
 
--- ready hosts that are made running are down, beside those that were
+-- ready hosts that are made running are down, in addition to those that were
 pub down_count-opened : (statuses : List Status) (hosts members : List ℕ) → are_ready statuses hosts ≡ true → down_count (changed (λ _. Running) hosts statuses) members ≡ down_count statuses members + count_by (λ host. has_number host hosts) members
 down_count-opened statuses hosts members ready =
     count_add is_down_after is_down_before (λ host. has_number host hosts) (λ host. at host (cases_lt host (length statuses))) members

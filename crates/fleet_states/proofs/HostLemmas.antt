@@ -1,4 +1,4 @@
--- Hosts of a list by their numbers.
+-- Hosts of a list by number.
 use Rattle.std.proofs.Common.{◌≡◌, ℕ, ◌<◌, true, List, length, get_or, subst, arith}
 use Rattle.std.proofs.lemmas.List.{get_or-map, length-map}
 use Rattle.group_tree.specs.declared.ids.HostId.{HostId}

@@ -28,7 +28,7 @@ least_same test other same (suc count) =
     ap (λ o. option_or o (if test count then Some count else None)) (least_same test other same count)
     ∙ ap (λ b. option_or (least_where other count) (if b then Some count else None)) (same count)
 
--- with one number more
+-- with one more number
 next : (test : ℕ → Bool) (count : ℕ) (here : Bool) → least_where test count ≡ None → test count ≡ here → least_where test (suc count) ≡ (if here then Some count else None)
 next test count here none is =
     ap (λ o. option_or o (if test count then Some count else None)) none ∙ ap (λ b. if b then Some count else None) is
@@ -47,7 +47,7 @@ least_found test (suc count) at below none here = by_case (least_found test coun
     by_case later (inr other) =
         ap (λ o. option_or o (if test count then Some count else None)) (later (omega (arith, below, other)) none here)
 
--- where nothing passes there is none
+-- if nothing passes, there is none
 pub never_least : (test : ℕ → Bool) → ((number : ℕ) → test number ≡ false) → (count : ℕ) → least_where test count ≡ None
 never_least test never zero = refl
 never_least test never (suc count) = next test count false (never_least test never count) (never count)

@@ -1,4 +1,4 @@
--- Hosts that wait, each once: what a batch is made of.
+-- Hosts that wait, each once: those that can make a batch.
 use Rattle.std.proofs.Common.{◌≡◌, ℕ, ◌+◌, ◌≤◌, ◌<◌, Bool, true, false, ◌&&◌, not, cond, List, [], ◌∷◌, ◌++◌, length, get_or, take, sym, ap, ◌∙◌, refl, arith, inl, inr, ◌⊎◌}
 use Rattle.std.specs.List.{list_all}
 use Rattle.std.proofs.lemmas.List.{ext_get_or, take_more}
@@ -62,7 +62,7 @@ and_true : (b : Bool) → b ≡ (b && true)
 and_true true = refl
 and_true false = refl
 
--- after some hosts were made running, a host waits where it waited and is none of them
+-- after some hosts were made running, a host waits if it waited and is not one of them
 pub waits_still : (statuses : List Status) (hosts : List ℕ) (host : ℕ) → is_waiting (status_at (changed (λ _. Running) hosts statuses) host) ≡ (is_waiting (status_at statuses host) && not (has_number host hosts))
 waits_still statuses hosts host = by_case (cases_lt host (length statuses))
   where

@@ -1,4 +1,4 @@
--- No group over its limit, as statuses change.
+-- No group is over its limit, as statuses change.
 use Rattle.std.proofs.Common.{◌≡◌, ℕ, zero, suc, ◌+◌, ◌-◌, ◌≤◌, ◌<◌, true, false, Option, Some, None, option_map, List, length, get_or, replicate, set, ap, ◌∙◌, refl, arith}
 use Rattle.std.proofs.lemmas.Bool.{le-ltb, lt-ltb, ltb-false, ltb-true}
 use Rattle.domains.specs.Starts.{exceeds}
@@ -18,7 +18,7 @@ pub exceeds_less : (limit : Option ℕ) (count less : ℕ) → exceeds limit cou
 exceeds_less None count less under l = refl
 exceeds_less (Some limit) count less under l = le-ltb limit less (omega (arith, ltb-false limit count under))
 
--- what a limit leaves of a count, against what comes to the count
+-- what a limit leaves of a count, compared with what is added to the count
 module _ (down more total : ℕ) (is : total ≡ down + more) where
   pub exceeds_after : (limit : Option ℕ) → exceeds limit down ≡ false → exceeds (option_map (λ n. n - down) limit) more ≡ false → exceeds limit total ≡ false
   exceeds_after None under fits = refl
@@ -34,7 +34,7 @@ module _ (down more total : ℕ) (is : total ≡ down + more) where
   full_where_after (Some limit) under over =
       lt-ltb (limit - down) more (omega (arith, ltb-false limit down under, ltb-true limit total over))
 
--- ready hosts that are made running put a group over its limit just where they are more than it has room for
+-- ready hosts that are made running put a group over its limit exactly if they exceed its room
 module _ (statuses : List Status) (hosts : List ℕ) (ready : are_ready statuses hosts ≡ true) (group : FleetGroup) where
   sums : down_count (changed (λ _. Running) hosts statuses) group.members ≡ down_count statuses group.members + members_among hosts group
   sums = down_count-opened statuses hosts group.members ready
@@ -51,7 +51,7 @@ module _ (statuses : List Status) (hosts : List ℕ) (ready : are_ready statuses
   full_from under over =
       full_where_after (down_count statuses group.members) (members_among hosts group) (down_count (changed (λ _. Running) hosts statuses) group.members) sums group.limit under over
 
--- none of a group's members always fit
+-- hosts that are not members of a group always fit
 pub fits_none : (statuses : List Status) (hosts : List ℕ) (group : FleetGroup) → members_among hosts group ≡ 0 → is_full_for statuses hosts group ≡ false
 fits_none statuses hosts group none =
     ap (exceeds (room statuses group)) none ∙ exceeds_none (room statuses group)
@@ -70,7 +70,7 @@ safe_changed groups change hosts statuses idle less safe k d within =
     let fewer = down_count-changed change hosts statuses group.members idle less in
     exceeds_less group.limit (down_count statuses group.members) (down_count (changed change hosts statuses) group.members) (safe k d within) fewer
 
--- where all hosts are alike and up, no group is over its limit
+-- if all hosts have the same status and are up, no group is over its limit
 pub safe_replicate : (groups : List FleetGroup) (count : ℕ) (status : Status) → is_down status ≡ false → IsSafe groups (replicate count status)
 safe_replicate groups count status up k d within =
     ap (exceeds (get_or groups k d).limit) (count_none (λ h. is_down (status_at (replicate count status) h)) (at count) (get_or groups k d).members) ∙ exceeds_none (get_or groups k d).limit

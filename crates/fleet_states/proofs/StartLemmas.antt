@@ -33,7 +33,7 @@ module _ (fleet : FleetView) (target : List ℕ) where
   get_or-start_statuses host d within =
       get_or-map-range_with_len (λ host. start_status (get_or fleet.off host false) (has_number host target)) 0 (length fleet.hosts) host host d within (omega arith)
 
--- at the start those are down that are off
+-- at the start, the hosts that are off are down
 down_where_off : (fleet : FleetView) (target : List ℕ) (host : ℕ) → length fleet.off ≡ length fleet.hosts → is_down (status_at (start_statuses fleet target) host) ≡ get_or fleet.off host false
 down_where_off fleet target host all = by_case (cases_lt host (length fleet.hosts))
   where

@@ -63,7 +63,7 @@ module _ (statuses : List Status) (host : ℕ) (status : Status) where
   pub status_at-set_other : (other : ℕ) → (other ≡ host → ⊥) → status_at (set statuses host status) other ≡ status_at statuses other
   status_at-set_other other apart = get_or-set_other statuses host other status Idle apart
 
--- the statuses once these hosts have those that are given to them
+-- the statuses after these hosts get the given ones
 abbrev pub given : (ℕ → Status) → List ℕ → List Status → List Status
 given status hosts statuses =
     map (λ host. cond (has_number host hosts) (status host) (status_at statuses host)) (range_with_len 0 (length statuses))
@@ -88,7 +88,7 @@ given_none status statuses =
     let long : length (given status [] statuses) ≡ length statuses = length-given status [] statuses in
     ext_get_or Idle (given status [] statuses) statuses long (λ k l. status_at-given status [] statuses k (omega (arith, l, long)))
 
--- one host more, whether it is there or not
+-- one more host, whether it exists or not
 module _ (status : ℕ → Status) (hosts : List ℕ) (i : ℕ) (within : i < length hosts) (statuses : List Status) where
   abbrev so_far : ℕ → List Status
   so_far k = given status (take k hosts) statuses
@@ -127,7 +127,7 @@ module _ (status : ℕ → Status) (hosts : List ℕ) (i : ℕ) (within : i < le
   given_past past =
       ext_get_or Idle (so_far i) (so_far (i + 1)) (long i ∙ sym (long (i + 1))) (λ k l. others k (omega (arith, l, long i)) (λ e. omega (arith, l, long i, past, e)))
 
--- the same of the hosts as the code reads them
+-- likewise for the hosts as the code reads them
 module _ (status : ℕ → Status) (hosts : List HostId) (i : ℕ) (d : HostId) (within : i < length hosts) (statuses : List Status) where
   abbrev after_hosts : ℕ → List Status
   after_hosts k = given status (take k (host_numbers hosts)) statuses
@@ -160,7 +160,7 @@ module _ (change : Status → Status) (hosts : List ℕ) (statuses : List Status
   pub status_at-changed_past : (host : ℕ) → length statuses ≤ host → status_at (changed change hosts statuses) host ≡ Idle
   status_at-changed_past = status_at-given_past change_at hosts statuses
 
-  -- a change that leaves idle hosts idle may be read at any number
+  -- a change that leaves idle hosts idle can be read at any number
   pub status_at-changed_idle : (host : ℕ) → change Idle ≡ Idle → status_at (changed change hosts statuses) host ≡ cond (has_number host hosts) (change (status_at statuses host)) (status_at statuses host)
   status_at-changed_idle host idle = by_case (cases_lt host (length statuses))
     where
@@ -184,7 +184,7 @@ pub changed_more : (hosts : List ℕ) (i : ℕ) → i < length hosts → (change
 changed_more hosts i within change statuses status =
     given_more (λ host. change (status_at statuses host)) hosts i within statuses status
 
--- the same of the hosts as the code reads them
+-- likewise for the hosts as the code reads them
 pub changed_more_host : (hosts : List HostId) (i : ℕ) (d : HostId) → i < length hosts → (change : Status → Status) (statuses : List Status) (status : Status)
     → (get_or hosts i d).index < length statuses → status ≡ change (status_at statuses (get_or hosts i d).index)
     → set (changed change (take i (host_numbers hosts)) statuses) (get_or hosts i d).index status

@@ -1,4 +1,4 @@
--- Laws of halts and of what becomes of a batch's hosts.
+-- Laws of halts, and of the statuses of a batch's hosts after it.
 use Rattle.std.specs.Prelude.{◌≡◌, ℕ, ◌<◌, IsTrue, IsFalse, Option, Some, None, List, length}
 use Rattle.fleet_index.specs.NumberLists.{has_number}
 use Rattle.fleet_states.specs.Statuses.{changed, is_running, is_waiting, status_at}
@@ -6,7 +6,7 @@ use Rattle.fleet_states.specs.declared.status.Status.{Status}
 use Rattle.fleet_states.specs.declared.status.Status.TheVariants.{Updated}
 use Rattle.fleet_states.specs.Batches.{Fails, halts_at, halt, statuses_after}
 
--- a batch halts at the first step that is past the percentage, and nowhere where none is
+-- a batch halts at the first step whose failures exceed the percentage, or nowhere if there is no such step
 abbrev pub IsLeastHalt : Fails → List ℕ → Option ℕ → ℕ → Option ℕ → Type 0
 IsLeastHalt fails batch percentage steps None =
     (step : ℕ) → step < steps → IsFalse (halts_at fails batch percentage step)
@@ -23,7 +23,7 @@ OthersStay =
     (halt : Option ℕ) (fails : Fails) (batch : List ℕ) (statuses : List Status) (host : ℕ) → IsFalse (has_number host batch)
     → status_at (statuses_after halt fails batch statuses) host ≡ status_at statuses host
 
--- of as many hosts that agree outside the batch the statuses after it are the same
+-- if the statuses of the hosts outside the batch agree, so do all statuses after it
 abbrev pub OthersDecide : Type 0
 OthersDecide =
     (halt : Option ℕ) (fails : Fails) (batch : List ℕ) (statuses others : List Status) → length statuses ≡ length others
@@ -52,7 +52,7 @@ NoneWaitsAfter =
 abbrev pub NoneFails : Fails → List ℕ → Type 0
 NoneFails fails batch = (host : ℕ) → IsTrue (has_number host batch) → fails host ≡ None
 
--- a batch of which no host fails halts nowhere, and its hosts are updated
+-- a batch in which no host fails halts nowhere, and its hosts are updated
 pub record IsUpdatedWhole (fails : Fails) (batch : List ℕ) : Type 0 where
   pub never_halts : (percentage : Option ℕ) (steps : ℕ) → halt fails batch percentage steps ≡ None
   pub updated : (statuses : List Status) → statuses_after None fails batch statuses ≡ changed (λ _. Updated) batch statuses

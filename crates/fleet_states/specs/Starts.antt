@@ -8,21 +8,21 @@ use Rattle.fleet_states.specs.declared.status.Status.TheVariants.{Idle, Waiting,
 use Rattle.fleet_states.specs.Statuses.{NobodyRuns}
 use Rattle.fleet_states.specs.Groups.{IsSafe, groups_of}
 
--- off where the host is off, else waiting where the run is for it, else idle
+-- off if the host is off, otherwise waiting if the run targets it, otherwise idle
 abbrev pub start_status : Bool → Bool → Status
 start_status true targeted = Off
 start_status false true = Waiting
 start_status false false = Idle
 
--- the statuses at the start of a run for these hosts
+-- the statuses at the start of a run with these targets
 abbrev pub start_statuses : FleetView → List ℕ → List Status
 start_statuses fleet target =
     map (λ host. start_status (slice_index_or fleet.off host false) (has_number host target)) (range_with_len 0 (length fleet.hosts))
 
--- whatever hosts a run is for, no group is over its limit at its start
+-- whatever hosts a run targets, no group is over its limit at its start
 abbrev pub StartsSafe : FleetView → Type 0
 StartsSafe fleet = (target : List ℕ) → IsSafe (groups_of fleet) (start_statuses fleet target)
 
--- whatever hosts a run is for, no host runs at its start
+-- whatever hosts a run targets, no host is running at its start
 abbrev pub StartsAtRest : FleetView → Type 0
 StartsAtRest fleet = (target : List ℕ) → NobodyRuns (start_statuses fleet target)

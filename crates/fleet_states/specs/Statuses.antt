@@ -1,4 +1,4 @@
--- The statuses of hosts, found by the hosts' numbers.
+-- The statuses of hosts, by number.
 use Rattle.std.specs.Prelude.{◌≡◌, ℕ, Bool, true, false, ◌&&◌, List, All, cond, map, length, count_by, slice_index_or}
 use Rattle.std.specs.List.{list_all, range_with_len}
 pub use Rattle.fleet_index.specs.NumberLists.{are_distinct}
@@ -17,7 +17,7 @@ is_down Halted = true
 is_down Off = true
 is_down Held = false
 
--- the host is up, and its turn is to come
+-- the host is up, and waits for its batch
 abbrev pub is_waiting : Status → Bool
 is_waiting Idle = false
 is_waiting Waiting = true
@@ -28,7 +28,7 @@ is_waiting Halted = false
 is_waiting Off = false
 is_waiting Held = false
 
--- the host is at work
+-- the host is running
 abbrev pub is_running : Status → Bool
 is_running Idle = false
 is_running Waiting = false
@@ -42,7 +42,7 @@ is_running Held = false
 abbrev pub NobodyRuns : List Status → Type 0
 NobodyRuns statuses = All (λ status. is_running status ≡ false) statuses
 
--- a number that no host has is idle
+-- a number without a host is idle
 abbrev pub status_at : List Status → ℕ → Status
 status_at statuses host = slice_index_or statuses host Idle
 
@@ -54,7 +54,7 @@ down_count statuses hosts = count_by (λ host. is_down (status_at statuses host)
 abbrev pub waiting_count : List Status → List ℕ → ℕ
 waiting_count statuses hosts = count_by (λ host. is_waiting (status_at statuses host)) hosts
 
--- the hosts wait, and none stands twice
+-- the hosts wait, and none appears twice
 abbrev pub are_ready : List Status → List ℕ → Bool
 are_ready statuses hosts = list_all (λ host. is_waiting (status_at statuses host)) hosts && are_distinct hosts
 

@@ -1,5 +1,5 @@
--- A small fleet for reading the definitions against: four hosts; all of them in `all` without a limit, the first three in a
--- rack of which two may be down, the last in one of which none may. The second is off.
+-- A small fleet on which the definitions are checked: four hosts, all of them in `all`, which has no limit. The first
+-- three are in a rack with limit 2, the last in one with limit 0. The second is off.
 use Rattle.std.specs.Prelude.{true, false, None, Some, [], ◌∷◌, codes}
 use Rattle.domains.specs.FleetViews.{FleetView}
 

@@ -6,7 +6,7 @@ ghost use Rattle.fleet_states.specs.Statuses.{down_count, waiting_count};
 use crate::status::{Status, status_of};
 use group_tree::HostId;
 
-/// How many of these hosts are down; one that stands twice counts twice.
+/// Returns how many of these hosts are down; a host listed twice counts twice.
 pub fn count_down(statuses: &[Status], hosts: &[HostId]) -> usize
     ensures { result ≡ down_count statuses.now (host_numbers hosts.now) }
 {
@@ -16,7 +16,7 @@ pub fn count_down(statuses: &[Status], hosts: &[HostId]) -> usize
         .count()
 }
 
-/// How many of these hosts wait; one that stands twice counts twice.
+/// Returns how many of these hosts wait; a host listed twice counts twice.
 pub fn count_waiting(statuses: &[Status], hosts: &[HostId]) -> usize
     ensures { result ≡ waiting_count statuses.now (host_numbers hosts.now) }
 {

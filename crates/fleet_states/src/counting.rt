@@ -6,8 +6,8 @@ ghost use Rattle.fleet_states.specs.Batches.{fails_in};
 
 use group_tree::HostId;
 
-/// How many hosts of the batch have failed by this step. `failing` has for each host of the fleet the step that failed on
-/// it, if one did; the failures of hosts outside the batch do not count.
+/// Returns how many hosts of the batch have failed by this step. `failing` has, for each host of the fleet, the step
+/// that failed on it, if one did. The failures of hosts outside the batch do not count.
 pub fn failed_by(failing: &[Option<usize>], batch: &[HostId], step: usize) -> usize
     ensures { result ≡ spec.failed_count (fails_in failing.now) (host_numbers batch.now) step }
 {
@@ -17,7 +17,7 @@ pub fn failed_by(failing: &[Option<usize>], batch: &[HostId], step: usize) -> us
         .count()
 }
 
-/// The step that failed on the host, if one did.
+/// Returns the step that failed on the host, if one did.
 pub(crate) fn failing_step(failing: &[Option<usize>], host: HostId) -> Option<usize>
     ensures { result ≡ fails_in failing.now host.index }
 {

@@ -1,4 +1,4 @@
-//! What becomes of the hosts of a batch.
+//! The statuses of a batch's hosts after it.
 ghost use Rattle.std.specs.Prelude.{◌≡◌};
 ghost use Rattle.fleet_index.specs.Ids.{host_numbers};
 ghost use Rattle.fleet_states.specs.Batches as spec;
@@ -8,8 +8,9 @@ use crate::counting::failing_step;
 use crate::status::Status;
 use group_tree::HostId;
 
-/// The status of a host after its batch, which halted at a step, if at one; a step failed on the host, if one did. One
-/// that fails behind the halt is halted: it does not come so far.
+/// Returns the status of a host after its batch. `halt` is the step at which the batch halted, if it did; `failing`
+/// is the step that failed on the host, if one did. A host that would fail after the halt is halted, since it does
+/// not get that far.
 pub fn status_after(halt: Option<usize>, failing: Option<usize>) -> Status
     ensures { result ≡ spec.status_after halt failing }
 {
@@ -23,8 +24,9 @@ pub fn status_after(halt: Option<usize>, failing: Option<usize>) -> Status
     }
 }
 
-/// Makes the statuses those after the batch, which halted at a step, if at one: of its hosts alone they change. `failing`
-/// has for each host of the fleet the step that failed on it, if one did. It takes no memory, and time for the batch alone.
+/// Changes the statuses to those after the batch. `halt` is the step at which the batch halted, if it did. `failing`
+/// has, for each host of the fleet, the step that failed on it, if one did. Only the statuses of the batch's hosts
+/// change. Does not allocate, and its time depends only on the batch.
 pub fn end_batch(
     statuses: &mut [Status],
     halt: Option<usize>,

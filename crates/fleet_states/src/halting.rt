@@ -7,8 +7,8 @@ ghost use Rattle.fleet_states.specs.Batches.{fails_in};
 use crate::counting::failed_by;
 use group_tree::{HostId, Percentage};
 
-/// Whether more of each hundred hosts of a batch of this size have failed than the percentage, where there is one.
-/// As many are not too many.
+/// Returns whether more than the percentage of a batch of this size has failed, if there is a percentage. Exactly the
+/// percentage is not too many.
 pub fn is_past(percentage: Option<Percentage>, failed: u32, size: u32) -> bool
     ensures { result ≡ spec.is_past percentage failed size }
 {
@@ -25,8 +25,8 @@ fn is_past_share(percentage: u8, failed: u64, size: u64) -> bool
     u128::from(percentage) * u128::from(size) < 100 * u128::from(failed)
 }
 
-/// The first of so many steps at which the batch halts, where it halts at one. `failing` has for each host of the fleet
-/// the step that failed on it, if one did. It takes no memory.
+/// Returns the first of the steps at which the batch halts, if it halts. `failing` has, for each host of the fleet,
+/// the step that failed on it, if one did. Does not allocate.
 pub fn halt(
     failing: &[Option<usize>],
     batch: &[HostId],

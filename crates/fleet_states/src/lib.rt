@@ -1,4 +1,4 @@
-//! The status of each host, the room that this leaves, when a batch halts and what becomes of its hosts.
+//! The status of each host, the room that statuses leave, when a batch halts, and what happens to its hosts.
 #![tactic(auto)]
 
 mod batch_laws;

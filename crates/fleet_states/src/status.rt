@@ -1,4 +1,4 @@
-//! What is known of a host.
+//! The status of a host.
 ghost use Rattle.std.specs.Prelude.{◌≡◌};
 ghost use Rattle.fleet_states.specs.Statuses.{is_down, is_waiting, status_at};
 
@@ -7,19 +7,19 @@ use group_tree::HostId;
 /// A host that is running, failed, halted or off is down.
 #[derive(Clone, Copy, Debug, PartialEq, Eq)]
 pub enum Status {
-    /// Up, and no roll is for it.
+    /// Up, and the play does not target it.
     Idle,
-    /// Up, and its turn is to come.
+    /// Up, and waiting for its batch.
     Waiting,
-    /// At work in the open batch.
+    /// Being updated in the open batch.
     Running,
     Updated,
     Failed,
-    /// Not updated, since its batch was halted.
+    /// Not updated, because its batch was halted.
     Halted,
     /// Down from the start.
     Off,
-    /// Up, and set aside: its turn does not come.
+    /// Up and held: it gets no batch in this play.
     Held,
 }
 
@@ -40,7 +40,7 @@ impl Status {
     }
 }
 
-/// The status of a host; a number that no host has is idle.
+/// Returns the status of a host; a number without a host counts as idle.
 pub fn status_of(statuses: &[Status], host: HostId) -> Status
     ensures { result ≡ status_at statuses.now host.index }
 {

@@ -1,4 +1,4 @@
--- What is written of a name has no byte that ends its text.
+-- An escaped name contains no byte that ends its text.
 use Rattle.std.proofs.Common.{◌≡◌, ℕ, ◌+◌, ◌/◌, ◌%◌, ◌≤◌, ◌||◌, Bool, true, false, codes, cond, eqb, nat_lt, List, [], ◌∷◌, flat_map, refl, ap, ◌∙◌, arith}
 use Rattle.std.specs.List.{list_any}
 use Rattle.std.specs.Char.{encode_utf8}
@@ -40,7 +40,7 @@ four c d e =
     let second = more (128 + e) ((128 + (c / 64) % 64) ∷ (128 + c % 64) ∷ []) (high (128 + e) (omega arith)) middle in
     more (240 + d) ((128 + e) ∷ (128 + (c / 64) % 64) ∷ (128 + c % 64) ∷ []) (high (240 + d) (omega arith)) second
 
--- nor do those of a character which is none of these
+-- nor do those of a character that is not one of these
 encoded : (c : ℕ) → (c ≡ 60 → ⊥) → (c ≡ 62 → ⊥) → (c ≡ 34 → ⊥) → list_any ends (encode_utf8 c) ≡ false
 unfolding encode_utf8
 encoded c x y z =

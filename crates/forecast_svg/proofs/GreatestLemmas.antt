@@ -1,4 +1,4 @@
--- The greatest of what numbers are given.
+-- The largest value of numbers.
 use Rattle.std.proofs.Common.{◌≡◌, ℕ, ◌+◌, ◌≤◌, ◌<◌, Bool, true, false, cond, ◌==◌, max, fold, Less, Equal, Greater, ◌∷◌, [], sym, ap, ◌∙◌, refl, arith, inl, inr, ◌⊎◌}
 use Rattle.std.specs.List.{range_with_len}
 use Rattle.std.specs.Ordering.{is_lt, nat_cmp, ord_max}
@@ -7,7 +7,7 @@ use Rattle.std.proofs.lemmas.List.Sums.{fold-append}
 use Rattle.fleet_states.proofs.NumberLemmas.{range_more}
 use Rattle.forecast_svg.specs.PictureText.{greatest}
 
--- one number more
+-- one more number
 pub greatest_more : (given : ℕ → ℕ) (i : ℕ) → max (greatest given i) (given i) ≡ greatest given (i + 1)
 greatest_more given i =
     sym (ap (fold (λ most number. max most (given number)) 12) (range_more i) ∙ fold-append (λ most number. max most (given number)) 12 (range_with_len 0 i) (i ∷ []))
@@ -27,7 +27,7 @@ max_is a b = by_case (cases_lt b a)
         let most : b ≡ max a b = omega (arith, past) in
         ap (λ t. cond (is_lt (cond t Less (cond (b == a) Equal Greater))) a b) (le-ltb b a past) ∙ later (b == a) ∙ most
 
--- so the greatest so far goes on
+-- the largest so far is updated
 pub greatest_next : (given : ℕ → ℕ) (i most next new : ℕ) → most ≡ greatest given i → next ≡ given i → new ≡ ord_max nat_cmp most next → new ≡ greatest given (i + 1)
 greatest_next given i most next new is given_is new_is =
     new_is ∙ max_is most next ∙ ap (λ n. max n next) is ∙ ap (max (greatest given i)) given_is ∙ greatest_more given i

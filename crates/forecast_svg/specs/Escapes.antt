@@ -1,17 +1,17 @@
--- Names, as a text of XML has them.
+-- Names as XML character data.
 use Rattle.std.specs.Prelude.{ℕ, ◌==◌, Bool, ◌&&◌, ◌||◌, not, nat_le, if◌then◌else◌, List, codes, flat_map}
 use Rattle.std.specs.Char.{encode_utf8}
 use Rattle.std.specs.Str.{chars}
 
--- XML lets the character stand in a text; surrogates are no characters of a name
+-- XML permits the character; surrogates are not characters of a name
 abbrev pub is_allowed : ℕ → Bool
 is_allowed c = (nat_le 32 c && not (c == 65534)) && not (c == 65535)
 
--- the character as it is, or a question mark
+-- the character unchanged, or a question mark
 abbrev pub plain : ℕ → List ℕ
 plain c = if is_allowed c then encode_utf8 c else codes "?"
 
--- what would end a text or an attribute stands as a reference
+-- a reference for a character that would end a text or an attribute
 abbrev pub escaped_char : ℕ → List ℕ
 escaped_char c =
     if c == 38 then codes "&amp;"

@@ -1,4 +1,4 @@
--- The text of a course's picture.
+-- The text of a forecast's picture.
 use Rattle.std.specs.Prelude.{ℕ, ◌+◌, ◌*◌, ◌-◌, ◌^◌, ◌==◌, Bool, true, false, ◌&&◌, ◌||◌, min, max, nat_le, nat_lt, if◌then◌else◌, Option, None, Some, unwrap_or, List, [], ◌++◌, codes, count_by, decimal, flat_map, fold, length, map, slice_get, slice_index_or}
 use Rattle.std.specs.List.{range_with_len}
 use Rattle.fleet_index.specs.NumberLists.{list_at}
@@ -19,21 +19,22 @@ pub record SheetView : Type 0 where
   pub hosts : List ℕ
   pub boundaries : List Boundary
 
--- the same of all plays
+-- likewise for all plays
 pub record PictureView : Type 0 where
   pub fleet : FleetView
   pub groups : List ℕ
   pub hosts : List ℕ
   pub plays : List (List Boundary)
 
--- a row for each host in the order in which they are dealt, which keeps the hosts of a limited group together; none where a fleet has more hosts than 256
+-- a row for each host in the order in which they are dealt, which keeps the hosts of a limited group together; none if a fleet has more
+-- than 256 hosts
 abbrev pub host_rows : FleetView → List ℕ
 host_rows fleet = if nat_le (length fleet.hosts) 256 then fleet.order else []
 
 abbrev pub picture_of_plays : FleetView → List (List Boundary) → PictureView
 picture_of_plays fleet plays = record { fleet = fleet; groups = limited_groups fleet; hosts = host_rows fleet; plays = plays }
 
--- a place on the picture: so many steps behind another one. No picture is so large that it comes to the greatest number
+-- a position in the picture, `count` steps after another one; it saturates, but no picture is that large
 abbrev pub spot : ℕ → ℕ → ℕ → ℕ
 spot base step count = min (base + min (step * count) (2 ^ 64 - 1)) (2 ^ 64 - 1)
 
@@ -41,14 +42,14 @@ spot base step count = min (base + min (step * count) (2 ^ 64 - 1)) (2 ^ 64 - 1)
 abbrev pub statuses_at : List Boundary → ℕ → List Status
 statuses_at boundaries column = slice_index_or (map (λ boundary. boundary.statuses.items) boundaries) column []
 
--- a host's status at a column's boundary, and at the one before; the first column has none before it
+-- a host's status at a column's boundary, and at the one before, which the first column doesn't have
 abbrev pub after : List Boundary → ℕ → ℕ → Status
 after boundaries column host = status_at (statuses_at boundaries column) host
 
 abbrev pub before : List Boundary → ℕ → ℕ → Status
 before boundaries column host = status_at (statuses_at boundaries (column - 1)) host
 
--- with this status a batch leaves its hosts
+-- a batch leaves its hosts with this status
 abbrev pub is_left : Status → Bool
 is_left status.Idle = false
 is_left status.Waiting = false
@@ -63,7 +64,7 @@ is_left status.Held = false
 abbrev pub ran : List Boundary → ℕ → ℕ → Bool
 ran boundaries column host = is_waiting (before boundaries column host) && is_left (after boundaries column host)
 
--- it is down while that batch runs: it was before, or is in it
+-- the host is down while that batch runs: it was before, or is in it
 abbrev pub was_down : List Boundary → ℕ → ℕ → Bool
 was_down boundaries column host = is_down (before boundaries column host) || ran boundaries column host
 
@@ -81,11 +82,11 @@ label_start kind x y = codes "<text " ++ (spot_text x y ++ (codes " class=\"" ++
 abbrev pub label_end : List ℕ
 label_end = codes "</text>\n"
 
--- a text of this kind
+-- a text element of this class
 abbrev pub label_text : List ℕ → ℕ → ℕ → List ℕ → List ℕ
 label_text kind x y body = label_start kind x y ++ (body ++ label_end)
 
--- a cell of this kind, with a mark behind it
+-- a cell of this class, followed by a mark
 abbrev pub cell_text : List ℕ → List ℕ → ℕ → ℕ → List ℕ
 cell_text kind mark x y = codes "<rect " ++ (spot_text x y ++ (codes " width=\"46\" height=\"14\" class=\"" ++ (kind ++ (mark ++ codes "\"/>\n"))))
 
@@ -98,7 +99,7 @@ abbrev pub host_cell : List Boundary → ℕ → ℕ → ℕ → List ℕ
 host_cell boundaries host y column =
     cell_text (state_word (after boundaries column host)) (ran_text (ran boundaries column host)) (spot 308 48 column) y
 
--- the limit of a group; 0 where it has none
+-- the limit of a group, or 0 if it has none
 abbrev pub limit_at : FleetView → ℕ → ℕ
 limit_at fleet group = unwrap_or (slice_index_or fleet.limits group None) 0
 
@@ -115,7 +116,7 @@ abbrev pub counted_cell : ℕ → ℕ → ℕ → ℕ → List ℕ
 counted_cell down limit y column =
     cell_text (room_word down limit) [] (spot 308 48 column) y ++ label_text (codes "count") (spot 331 48 column) (spot y 11 1) (count_text down limit)
 
--- a group's cell: how many of its hosts are down while the column's batch runs, of how many that may be
+-- a group's cell: how many of its hosts are down while the column's batch runs, and its limit
 abbrev pub group_cell : SheetView → ℕ → ℕ → ℕ → List ℕ
 group_cell sheet group y column = counted_cell (down_in sheet column group) (limit_at sheet.fleet group) y column
 
@@ -123,7 +124,7 @@ group_cell sheet group y column = counted_cell (down_in sheet column group) (lim
 abbrev pub group_label : FleetView → ℕ → List ℕ
 group_label fleet group = escaped (host_at fleet.groups group) ++ (codes " max_down=" ++ decimal (limit_at fleet group))
 
--- the innermost limited group of a host's, if it has one
+-- the innermost limited group of a host, if it has one
 abbrev pub innermost : List ℕ → Option ℕ
 innermost chain = slice_get chain (length chain - 1)
 
@@ -135,7 +136,7 @@ inside_text fleet (Some group) = codes ": " ++ escaped (host_at fleet.groups gro
 abbrev pub host_label : FleetView → ℕ → List ℕ
 host_label fleet host = escaped (host_at fleet.hosts host) ++ inside_text fleet (innermost (list_at fleet.chains host))
 
--- `now`, and behind it the numbers of the batches
+-- `now`, followed by the numbers of the batches
 abbrev pub column_head : ℕ → List ℕ
 column_head column = if column == 0 then codes "now" else decimal column
 
@@ -186,22 +187,22 @@ abbrev pub sheet_text : SheetView → ℕ → ℕ → List ℕ
 sheet_text sheet top play =
     title_text top play ++ (each_below (head_label (spot top 36 1)) (length sheet.boundaries) ++ rows_text sheet (spot top 42 1))
 
--- how high a play is drawn
+-- the height of a play
 abbrev pub height_of : PictureView → ℕ
 height_of picture = spot (spot 64 16 (length picture.groups)) 16 (length picture.hosts)
 
 abbrev pub play_text : PictureView → ℕ → List ℕ
 play_text picture play = sheet_text (sheet_of picture play) (spot 48 (height_of picture) play) play
 
--- the greatest of what the numbers below a count are given, and of twelve
+-- the largest value of the numbers below a count, and at least twelve
 abbrev pub greatest : (ℕ → ℕ) → ℕ → ℕ
 greatest given count = fold (λ most number. max most (given number)) 12 (range_with_len 0 count)
 
--- how many columns the widest play has; the legend needs as much room as twelve
+-- how many columns the widest play has, and at least twelve, which the legend needs
 abbrev pub most_columns : List (List Boundary) → ℕ
 most_columns plays = greatest (λ play. length (play_at plays play)) (length plays)
 
--- the beginning: how large the picture is
+-- the start: the size of the picture
 abbrev pub open_text : PictureView → List ℕ
 open_text picture =
     codes "<svg xmlns=\"http://www.w3.org/2000/svg\" width=\""
@@ -211,11 +212,11 @@ open_text picture =
 abbrev pub style_text : List ℕ
 style_text = codes "<style>svg{background:#fff}text{font:12px monospace;fill:#222}.group,.host{text-anchor:end}.group,.play{font-weight:bold}.head,.count{text-anchor:middle;font-size:9px}rect{stroke:#bbb;fill:#fff}.waiting{fill:#dbe9f6}.running,.updated{fill:#b8e0b4}.failed{fill:#d62728}.halted{fill:#ff9f40}.off{fill:#8a8a8a}.held{fill:#c9b3e6}.ran{stroke:#000}.updated.ran{fill:#2ca02c}.room{fill:#f4f4f4}.full{fill:#ffe08a}</style>\n"
 
--- an entry of the legend: a cell, and what it says
+-- an entry of the legend: a cell, and its meaning
 abbrev pub entry_text : List ℕ → ℕ → List ℕ → List ℕ
 entry_text kind place words = cell_text kind [] (spot 8 112 place) 10 ++ label_text (codes "entry") (spot 58 112 place) 21 words
 
--- what the colors say
+-- the meanings of the colors
 abbrev pub legend_text : List ℕ
 legend_text =
     entry_text (codes "waiting") 0 (codes "waiting")
@@ -226,6 +227,6 @@ legend_text =
     ++ (entry_text (codes "off") 5 (codes "off")
     ++ (entry_text (codes "held") 6 (codes "held") ++ entry_text (codes "full") 7 (codes "no room")))))))
 
--- the whole picture
+-- the complete picture
 abbrev pub picture_text : PictureView → List ℕ
 picture_text picture = open_text picture ++ (style_text ++ (legend_text ++ (each_below (play_text picture) (length picture.plays) ++ codes "</svg>\n")))

@@ -14,7 +14,7 @@ use play_forecast::Boundary;
 use recap::{group_name, host_name, word_of};
 use std::io::Write;
 
-/// What a cell has behind its kind where its host was in the batch.
+/// Returns what follows the class of a cell if its host was in the batch.
 fn mark_of(ran: bool) -> &'static str
     ensures { result.now ≡ model.ran_text ran }
 {
@@ -68,7 +68,7 @@ fn write_count_label<W: Write>(text: &mut TextWriter<'_, W>, at: Spot, down: u64
     close_label(text);
 }
 
-/// Writes a group's cell: how many of its hosts are down, of how many that may be.
+/// Writes a group's cell: how many of its hosts are down, and its limit.
 #[tactic(auto, using(bounded_io::proofs::Pieces::pieces_of_text))]
 fn write_counted<W: Write>(
     text: &mut TextWriter<'_, W>,
@@ -103,7 +103,7 @@ pub(crate) fn write_group_cell<W: Write>(
     write_counted(text, y, column, down, sheet.limit(group));
 }
 
-/// Writes what a group's row is called.
+/// Writes the label of a group's row.
 #[tactic(auto, using(bounded_io::proofs::Pieces::pieces_of_text))]
 pub(crate) fn write_group_label<W: Write>(
     text: &mut TextWriter<'_, W>,
@@ -130,7 +130,7 @@ fn write_inside<W: Write>(text: &mut TextWriter<'_, W>, sheet: &Sheet<'_>, group
     }
 }
 
-/// Writes what a host's row is called.
+/// Writes the label of a host's row.
 #[tactic(auto, using(bounded_io::proofs::Pieces::pieces_of_text))]
 pub(crate) fn write_host_label<W: Write>(
     text: &mut TextWriter<'_, W>,

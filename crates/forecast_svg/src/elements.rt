@@ -1,4 +1,4 @@
-//! The elements of a picture: texts and cells.
+//! The elements of a picture: text and cells.
 ghost use Rattle.std.specs.Prelude.{◌++◌};
 ghost use Rattle.bounded_io.specs.Writing.{Writes};
 ghost use Rattle.forecast_svg.specs.PictureText.{cell_text, label_end, label_start, label_text, spot_text};
@@ -6,7 +6,7 @@ ghost use Rattle.forecast_svg.specs.PictureText.{cell_text, label_end, label_sta
 use bounded_io::TextWriter;
 use std::io::Write;
 
-/// Where an element stands, in pixels from the left and from the top.
+/// The position of an element, in pixels from the left and from the top.
 #[derive(Clone, Copy, Debug)]
 pub(crate) struct Spot {
     pub(crate) x: u64,
@@ -24,7 +24,7 @@ fn write_spot<W: Write>(text: &mut TextWriter<'_, W>, at: Spot)
     text.write_str("\"");
 }
 
-/// Goes on with the beginning of a text of this kind.
+/// Appends the start of a text element of this class.
 #[tactic(auto, using(bounded_io::proofs::Pieces::pieces_of_text))]
 pub(crate) fn open_label<W: Write>(text: &mut TextWriter<'_, W>, kind: &str, at: Spot)
     ensures { Writes W.contents text.old text.new (label_start kind.now at.x at.y) }
@@ -36,14 +36,14 @@ pub(crate) fn open_label<W: Write>(text: &mut TextWriter<'_, W>, kind: &str, at:
     text.write_str("\">");
 }
 
-/// Ends a text.
+/// Ends a text element.
 pub(crate) fn close_label<W: Write>(text: &mut TextWriter<'_, W>)
     ensures { Writes W.contents text.old text.new label_end }
 {
     text.write_str("</text>\n");
 }
 
-/// Goes on with a text of this kind that says these words, which are no name.
+/// Appends a text element of this class with these words, which need no escaping.
 #[tactic(auto, using(bounded_io::proofs::Pieces::pieces_of_text))]
 pub(crate) fn write_label<W: Write>(text: &mut TextWriter<'_, W>, kind: &str, at: Spot, words: &str)
     ensures { Writes W.contents text.old text.new (label_text kind.now at.x at.y words.now) }
@@ -53,7 +53,7 @@ pub(crate) fn write_label<W: Write>(text: &mut TextWriter<'_, W>, kind: &str, at
     close_label(text);
 }
 
-/// Goes on with a cell of this kind, which has a mark or an empty text behind it.
+/// Appends a cell of this class, followed by a mark or an empty string.
 #[tactic(auto, using(bounded_io::proofs::Pieces::pieces_of_text))]
 pub(crate) fn write_cell<W: Write>(text: &mut TextWriter<'_, W>, kind: &str, mark: &str, at: Spot)
     ensures { Writes W.contents text.old text.new (cell_text kind.now mark.now at.x at.y) }

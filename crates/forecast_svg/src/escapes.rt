@@ -1,4 +1,4 @@
-//! Names, as a text of XML has them.
+//! Names as XML character data.
 ghost use Rattle.std.specs.Prelude.{◌≡◌, flat_map};
 ghost use Rattle.std.specs.Str.{chars};
 ghost use Rattle.bounded_io.specs.Writing.{Writes};
@@ -7,7 +7,7 @@ ghost use Rattle.forecast_svg.specs.Escapes as model;
 use bounded_io::TextWriter;
 use std::io::Write;
 
-/// Whether XML lets the character stand in a text.
+/// Reports whether XML permits the character.
 fn is_allowed(c: char) -> bool
     ensures { result ≡ model.is_allowed c }
 {
@@ -15,7 +15,7 @@ fn is_allowed(c: char) -> bool
     32 <= code && code != 0xfffe && code != 0xffff
 }
 
-/// Goes on with the character as it is, or with a question mark where XML doesn't let it stand.
+/// Appends the character unchanged, or a question mark if XML doesn't permit it.
 fn write_plain<W: Write>(text: &mut TextWriter<'_, W>, c: char)
     ensures { Writes W.contents text.old text.new (model.plain c) }
 {
@@ -38,7 +38,8 @@ fn write_char<W: Write>(text: &mut TextWriter<'_, W>, c: char)
     }
 }
 
-/// Goes on with the name as a text of XML has it: what would end that text stands as a reference, and what XML doesn't know as a question mark.
+/// Appends the name as XML character data. Writes a reference for a character that would end the text, and a question mark for one that XML
+/// doesn't permit.
 pub(crate) fn write_escaped<W: Write>(text: &mut TextWriter<'_, W>, name: &str)
     ensures { Writes W.contents text.old text.new (model.escaped name.now) }
 {

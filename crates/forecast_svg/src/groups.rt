@@ -14,7 +14,7 @@ fn is_among_limited(fleet: &Fleet, group: GroupId) -> bool
     group.index < fleet.groups() && fleet.limit(group).is_some()
 }
 
-/// Adds the group where it is limited.
+/// Adds the group if it is limited.
 fn push_where(groups: &mut Vec<GroupId>, group: GroupId, is_limited: bool) -> Result<(), AllocError>
     ensures { OnOk result (group_numbers groups.new.items ≡ group_numbers groups.old.items ++ cond is_limited (group.index ∷ []) []) }
 {
@@ -24,7 +24,7 @@ fn push_where(groups: &mut Vec<GroupId>, group: GroupId, is_limited: bool) -> Re
     Ok(())
 }
 
-/// The limited groups in preorder, of which a picture has a row each. Only want of memory refuses them.
+/// Returns the limited groups in preorder, each of which has a row. Fails only if an allocation fails.
 pub fn list_limited(alloc: Global, fleet: &Fleet) -> Result<Vec<GroupId>, AllocError>
     ensures { IfOk result (λ groups. group_numbers groups.items ≡ limited_groups fleet.now) }
 {

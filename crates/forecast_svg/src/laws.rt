@@ -1,7 +1,7 @@
-//! What holds of every picture.
+//! Properties of every picture.
 ghost use Rattle.forecast_svg.specs.Laws.{NoNameEndsItsText};
 
-/// No name has, as it is written, a byte that ends the text or the attribute in which it stands.
+/// An escaped name contains no byte that ends the text or attribute it appears in.
 pub fn no_name_ends_its_text()
     ensures { NoNameEndsItsText }
 {}

@@ -1,4 +1,4 @@
-//! The course of a playbook as a picture, in SVG: hosts and limited groups in rows, batches in columns.
+//! The forecast of a playbook as an SVG picture: hosts and limited groups in rows, batches in columns.
 #![tactic(auto)]
 
 mod cells;

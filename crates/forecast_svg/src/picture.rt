@@ -1,4 +1,4 @@
-//! The picture of a playbook's course.
+//! The picture of a playbook's forecast.
 ghost use Rattle.std.specs.Prelude.{◌≡◌, ◌++◌, codes, decimal, length, map};
 ghost use Rattle.bounded_io.specs.Writing.{Writes};
 ghost use Rattle.domains.specs.Ids.{group_numbers, host_numbers};
@@ -17,10 +17,10 @@ use group_tree::{GroupId, HostId};
 use play_forecast::Boundary;
 use std::io::Write;
 
-/// A fleet with more hosts is drawn by its limited groups alone.
+/// A fleet with more hosts is drawn by its limited groups only.
 const FOLDED: usize = 256;
 
-/// What is drawn: a fleet, its limited groups, the hosts that have a row each, and the boundaries of each play's course.
+/// What is drawn: a fleet, its limited groups, the hosts that have a row, and the boundaries of each play's forecast.
 #[derive(Clone, Copy)]
 pub struct Picture<'p> {
     pub(crate) fleet: &'p Fleet,
@@ -29,7 +29,7 @@ pub struct Picture<'p> {
     pub(crate) courses: &'p [&'p [Boundary]],
 }
 
-/// The hosts that have a row each, in the order in which they are dealt; none where there are too many.
+/// Returns the hosts that have a row, in the order in which they are dealt, or none if there are too many.
 fn host_rows(fleet: &Fleet) -> &[HostId]
     ensures { host_numbers result.now ≡ model.host_rows fleet.now }
 {
@@ -41,7 +41,7 @@ fn host_rows(fleet: &Fleet) -> &[HostId]
 }
 
 impl<'p> Picture<'p> {
-    /// The picture of these courses on this fleet, whose limited groups these are, in preorder.
+    /// Returns the picture of these forecasts on this fleet, whose limited groups are `groups`, in preorder.
     pub fn new(
         fleet: &'p Fleet,
         groups: &'p [GroupId],
@@ -58,7 +58,7 @@ impl<'p> Picture<'p> {
         }
     }
 
-    /// The boundaries of a play; none past the last.
+    /// Returns the boundaries of a play; none past the last.
     fn boundaries(&self, play: usize) -> &[Boundary]
         ensures { result.now ≡ model.play_at (picture_view self.now).plays play }
     {
@@ -79,28 +79,28 @@ impl<'p> Picture<'p> {
         }
     }
 
-    /// How high a play is drawn.
+    /// Returns the height of a play.
     fn height(&self) -> u64
         ensures { result ≡ model.height_of (picture_view self.now) }
     {
         spot(spot(64, 16, self.groups.len()), 16, self.hosts.len())
     }
 
-    /// How wide the picture is.
+    /// Returns the width of the picture.
     fn width(&self) -> u64
         ensures { result ≡ model.spot 320 48 (model.most_columns (picture_view self.now).plays) }
     {
         spot(320, 48, self.most_columns())
     }
 
-    /// How high it is.
+    /// Returns the height of the picture.
     fn whole_height(&self) -> u64
         ensures { result ≡ model.spot 56 (model.height_of (picture_view self.now)) (length (picture_view self.now).plays) }
     {
         spot(56, self.height(), self.courses.len())
     }
 
-    /// How many columns the widest play has; the legend needs as much room as twelve.
+    /// Returns how many columns the widest play has, and at least twelve, which the legend needs.
     fn most_columns(&self) -> usize
         ensures { result ≡ model.most_columns (picture_view self.now).plays }
     {
@@ -174,8 +174,9 @@ fn write_plays<W: Write>(text: &mut TextWriter<'_, W>, picture: &Picture<'_>)
     }
 }
 
-/// Goes on with the whole picture, in SVG: a legend, and of each play a row for each limited group, with how many of its hosts are down of how many that may be, and
-/// a row for each host, where the fleet has no more than 256; a column shows how all stand at the play's beginning, and one behind each batch. Lengths are in pixels. It takes no memory.
+/// Appends the complete picture as SVG. Below a legend, each play has a row for each limited group, with how many of its hosts are down and
+/// its limit. It also has a row for each host if the fleet has at most 256. The first column shows the start of the play, and each further
+/// one the state after a batch. Lengths are in pixels. Does not allocate.
 #[tactic(auto, using(bounded_io::proofs::Pieces::pieces_of_text))]
 pub fn write_picture<W: Write>(text: &mut TextWriter<'_, W>, picture: &Picture<'_>)
     ensures { Writes W.contents text.old text.new (model.picture_text (picture_view picture.now)) }

@@ -63,7 +63,7 @@ fn write_host_cells<W: Write>(text: &mut TextWriter<'_, W>, sheet: &Sheet<'_>, h
     }
 }
 
-/// Where the name of a row stands.
+/// Returns the position of the label of a row.
 fn name_spot(top: u64, row: usize) -> Spot
     ensures x { result.x ≡ 300 }
     ensures y { result.y ≡ model.spot (model.spot top 11 1) 16 row }

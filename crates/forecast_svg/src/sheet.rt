@@ -20,7 +20,7 @@ pub(crate) struct Sheet<'s> {
     pub(crate) boundaries: &'s [Boundary],
 }
 
-/// The statuses at a boundary; none past the last.
+/// Returns the statuses at a boundary; none past the last.
 fn statuses_at(boundaries: &[Boundary], column: usize) -> &[Status]
     ensures { result.now ≡ model.statuses_at boundaries.now column }
 {
@@ -30,14 +30,14 @@ fn statuses_at(boundaries: &[Boundary], column: usize) -> &[Status]
     }
 }
 
-/// Whether a batch leaves its hosts with this status.
+/// Reports whether a batch leaves its hosts with this status.
 fn is_left(status: Status) -> bool
     ensures { result ≡ model.is_left status }
 {
     matches!(status, Status::Updated | Status::Failed | Status::Halted)
 }
 
-/// The host's status at a column's boundary.
+/// Returns the host's status at a column's boundary.
 pub(crate) fn after(boundaries: &[Boundary], column: usize, host: HostId) -> Status
     ensures { result ≡ model.after boundaries.now column host.index }
 {
@@ -50,7 +50,7 @@ fn before(boundaries: &[Boundary], column: usize, host: HostId) -> Status
     status_of(statuses_at(boundaries, column.saturating_sub(1)), host)
 }
 
-/// Whether the host was in the column's batch.
+/// Reports whether the host was in the column's batch.
 pub(crate) fn ran(boundaries: &[Boundary], column: usize, host: HostId) -> bool
     ensures { result ≡ model.ran boundaries.now column host.index }
 {
@@ -64,7 +64,7 @@ fn was_down(boundaries: &[Boundary], column: usize, host: HostId) -> bool
 }
 
 impl<'s> Sheet<'s> {
-    /// The group of a row; past the end the first.
+    /// Returns the group of a row, or the first group past the end.
     pub(crate) fn group(&self, row: usize) -> GroupId
         ensures { result.index ≡ model.group_at (sheet_view self.now) row }
     {
@@ -74,7 +74,7 @@ impl<'s> Sheet<'s> {
         }
     }
 
-    /// The host of a row; past the end the first.
+    /// Returns the host of a row, or the first host past the end.
     pub(crate) fn host(&self, row: usize) -> HostId
         ensures { result.index ≡ model.host_in (sheet_view self.now) row }
     {
@@ -84,7 +84,7 @@ impl<'s> Sheet<'s> {
         }
     }
 
-    /// The group's limit; 0 where it has none.
+    /// Returns the group's limit, or 0 if it has none.
     pub(crate) fn limit(&self, group: GroupId) -> u64
         ensures { result ≡ model.limit_at self.now.fleet.now group.index }
     {
@@ -97,7 +97,7 @@ impl<'s> Sheet<'s> {
         }
     }
 
-    /// The hosts of the group; none where there is no such group.
+    /// Returns the hosts of the group, or none if there is no such group.
     fn members(&self, group: GroupId) -> &[HostId]
         ensures { host_numbers result.now ≡ list_at self.now.fleet.now.members group.index }
     {
@@ -108,14 +108,14 @@ impl<'s> Sheet<'s> {
         }
     }
 
-    /// How many of the group's hosts are down while the column's batch runs.
+    /// Returns how many of the group's hosts are down while the column's batch runs.
     pub(crate) fn count_down(&self, column: usize, group: GroupId) -> u64
         ensures { result ≡ model.down_in (sheet_view self.now) column group.index }
     {
         count(self.boundaries, column, self.members(group)) as u64
     }
 
-    /// The innermost limited group of the host's, if it has one.
+    /// Returns the innermost limited group of the host, if it has one.
     pub(crate) fn innermost(&self, host: HostId) -> Option<GroupId>
         ensures { option_map (λ group. group.index) result ≡ model.innermost (list_at self.now.fleet.now.chains host.index) }
     {

@@ -1,8 +1,8 @@
-//! Places on a picture.
+//! Positions in a picture.
 ghost use Rattle.std.specs.Prelude.{◌≡◌};
 ghost use Rattle.forecast_svg.specs.PictureText as model;
 
-/// The place so many steps behind another one; the greatest number where it is larger than numbers go.
+/// Returns the position `count` steps after another one, saturating at the largest number.
 pub(crate) fn spot(base: u64, step: u64, count: usize) -> u64
     ensures { result ≡ model.spot base step count }
 {

@@ -1,4 +1,4 @@
--- What a board hands out is its own.
+-- What a board issues is its own.
 use Rattle.std.proofs.Common.{◌≡◌, suc, sym, ap, ◌∙◌, subst, inl, inr}
 use Rattle.event_log.specs.Events.{claimed}
 use Rattle.roll_core.specs.declared.claim.Handed.{Handed}
@@ -34,7 +34,7 @@ module _ {R : Type 0} where
   claimed_own before after given is =
       its_own before after is.handed given (ap (λ (b : BoardView R). b.context) is.rest) is.as_given (handed_is_out before.kernel after.kernel is.handed is.claim)
 
-  -- the board's own report is no stranger
+  -- the board accepts its own report
   pub own_entered : (alike : R → R → Type 0) → ((runner : R) → alike runner runner) → (before after : BoardView R) (done : DoneView R) → IsEntered alike before after done
       → done.runner ≡ before.context.runner → IsOut (roll_of before.kernel) (state_of before.kernel) done.completion → suc (claims_out after) ≡ claims_out before
   own_entered alike itself before after done (inl entered) runner out = entered.1

@@ -1,4 +1,4 @@
--- A board that continues another, while workers are at work on its step.
+-- A board that continues another, while workers run its step.
 use Rattle.std.proofs.Common.{◌≡◌, ℕ, true, ◌&&◌, List, [], ◌∷◌, ◌++◌, sym, ap, ◌∙◌, refl, append_assoc}
 use Rattle.std.specs.Prelude.{Result, Ok, Err, OnErr, OnOk}
 use Rattle.std.specs.List.{list_all}
@@ -14,7 +14,7 @@ both_work some more first second =
     list_all-append is_work some more ∙ ap (λ b. b && list_all is_work more) first ∙ second
 
 module _ {R : Type 0} where
-  -- where nothing but the tallies changes
+  -- if only the tallies change
   pub stays : (before after : BoardView R) → after.context ≡ before.context → after.kernel ≡ before.kernel → Continues before after
   stays before after context kernel =
       record { context = context; more = []; work = refl; kernel = kernel ∙ ap (λ (log : List Event). record before.kernel { log = log }) (sym (append-nil before.kernel.log)) }

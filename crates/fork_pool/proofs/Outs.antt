@@ -1,4 +1,4 @@
--- Who is out on a board.
+-- Which hosts are out on a board.
 use Rattle.std.proofs.Common.{◌≡◌, ℕ, suc, Bool, true, false, not, ◌&&◌, nat_eq, None, List, [], ◌∷◌, length, ap, ◌∙◌, refl, arith}
 use Rattle.std.specs.List.{find}
 use Rattle.std.proofs.lemmas.Bool.{and_from}
@@ -35,7 +35,7 @@ next_distinct roll state (reported host step ending) may single =
 next_distinct roll state (passed step) may single = single
 next_distinct roll state closed may single = closed_distinct state state.phase single
 
--- in a legal log nobody is out twice
+-- in a legal log no host is out twice
 pub out_distinct : (roll : Roll) (state : State) (log : List Event) → are_distinct state.out ≡ true → IsLegal roll state log → are_distinct (state_after roll state log).out ≡ true
 out_distinct roll state [] single legal = single
 out_distinct roll state (event ∷ log) single legal =
@@ -61,7 +61,7 @@ module _ {R : Type 0} where
   one_less_out before after completion single out grown =
       ap suc (out_more before after (event_in completion) grown) ∙ length_without completion.host (state_of before.kernel).out single out.out
 
-  -- where nobody is free and nobody is out, nobody is due
+  -- if no host is free and none is out, none is due
   pub nobody_due : (board : BoardView R) → find (is_free (roll_of board.kernel) (state_of board.kernel)) (state_of board.kernel).batch ≡ None → claims_out board ≡ 0 → hosts_due board ≡ 0
   nobody_due board none nobody =
       count_none_in (is_awaited_in roll state) state.batch (λ host here. awaited_not host (none_out state.out host nobody) (found_none (is_free roll state) state.batch host none here))

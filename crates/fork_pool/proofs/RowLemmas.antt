@@ -8,12 +8,12 @@ use Rattle.fork_pool.specs.declared.script.row.Row.{Row}
 use Rattle.fork_pool.specs.ScriptLines.{Line, told_by}
 use Rattle.fork_pool.specs.ScriptRows.{AreRun, is_run, line_of, lines_of}
 
--- what follows from what is said of an answer
+-- a consequence of what holds for an answer
 pub if_ok : {V E : Type 0} {P Q : V → Type 0} (answer : Result V E) → ((value : V) → P value → Q value) → IfOk answer P → IfOk answer Q
 if_ok (Ok value) gives p = gives value p
 if_ok (Err fault) gives p = p
 
--- what a script tells is the end of a program that is run
+-- what a script specifies is the end of a program that is run
 pub told_run : (lines : List Line) (host step : ℕ) → AreRun lines → is_of_program (told_by lines host step) ≡ true
 told_run [] host step run = refl
 told_run (line ∷ lines) host step run =

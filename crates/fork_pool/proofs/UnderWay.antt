@@ -1,4 +1,4 @@
--- A step that is being worked on.
+-- A step in progress.
 use Rattle.std.proofs.Common.{◌≡◌, ℕ, suc, ◌+◌, ◌<◌, ◌≤◌, true, false, nat_lt, None, Some, sym, ap, ◌∙◌, subst, refl, arith, inl, inr, ◌⊎◌}
 use Rattle.std.specs.Prelude.{Option, Result, Ok, Err, IfErr, IfOk, OnErr, OnOk}
 use Rattle.std.proofs.lemmas.Bool.{lt-ltb, ltb-true, or_cases, or_left, or_right}
@@ -53,7 +53,7 @@ module _ {R : Type 0} where
         at = omega (arith, forks, kept.at);
       }
 
-  -- whatever a claim answers
+  -- for every answer to a claim
   pub kept_by_claiming : {E : Type 0} (answer : Result (Option (Claimed R)) E) (before after : BoardView R) (notes : Notes) → IfOk answer (IsGiving before after) → OnErr answer (after ≡ before)
       → IsUnderWay before notes → IsUnderWay after notes
   kept_by_claiming (Ok None) before after notes giving same kept = kept_by before after notes giving.same kept
@@ -71,7 +71,7 @@ module _ {R : Type 0} where
   given_after_claim before between after old new Settled going more is = (going, is.0, omega (arith, is.1, more))
   given_after_claim before between after old new (Ticket ticket) going more is = (going, is.0, is.1 ∙ more)
 
-  -- whatever a report answers
+  -- for every answer to a report
   pub kept_by_reporting : {V E : Type 0} (answer : Result V E) (before after : BoardView R) (notes : Notes) (completion : Completed) → are_distinct (state_of before.kernel).out ≡ true
       → OnOk answer (after ≡ with_event before (event_in completion)) → OnOk answer (IsOut (roll_of before.kernel) (state_of before.kernel) completion) → OnErr answer (after ≡ before)
       → notes.out + notes.lost < claims_out before → IsUnderWay before notes → IsUnderWay after notes

@@ -1,4 +1,4 @@
--- Why a step did not come to its end.
+-- Why a step did not complete.
 use Rattle.std.specs.Prelude.{ℕ, ◌<◌, Option, Some, None}
 use Rattle.fork_pool.specs.declared.fault.StepFault.{StepFault}
 use Rattle.fork_pool.specs.declared.fault.StepFault.TheVariants.{Mem, WorkerMem, Mixed}
@@ -10,7 +10,7 @@ number_of Mem = None
 number_of (WorkerMem at) = Some 821
 number_of Mixed = Some 822
 
--- what it says is so: the place is one of so many, and a claim is out; so it is where a report is missing
+-- the error is true: the worker's index is within range, and a claim is out; a claim is also out if a report is missing
 abbrev pub IsFaultOf : {R : Type 0} → ℕ → BoardView R → StepFault → Type 0
 IsFaultOf forks board Mem = Unit {0}
 IsFaultOf forks board (WorkerMem at) = (at < forks) × (0 < claims_out board)

@@ -1,4 +1,4 @@
--- What only the proofs need: a step while it is being worked on.
+-- For the proofs only: a step in progress.
 use Rattle.std.specs.Prelude.{◌≡◌, ℕ, suc, ◌+◌, ◌-◌, ◌<◌, ◌≤◌, min, Bool, true, false, ◌||◌, nat_lt, if◌then◌else◌, ◌⊎◌, None, List, [], ◌∷◌, ◌++◌, find}
 use Rattle.event_log.specs.Works.{is_free}
 use Rattle.roll_core.specs.Claims.{IsOut, event_in}
@@ -26,27 +26,27 @@ nothing_yet last_place =
 abbrev pub is_stopped : Notes → Bool
 is_stopped notes = notes.wants || nat_lt 0 notes.lost
 
--- one ticket more is out
+-- one more ticket is out
 abbrev pub with_ticket : Notes → Notes
 with_ticket notes = record notes { out = suc notes.out }
 
--- one is back with its report
+-- a ticket came back with its report
 abbrev pub with_report : Notes → Notes
 with_report notes = record notes { out = notes.out - 1 }
 
--- one is back from the worker at this place, which found no memory
+-- a ticket came back from the worker at this index, which ran out of memory
 abbrev pub with_want_at : ℕ → Notes → Notes
 with_want_at place notes =
     record notes { out = notes.out - 1; lost = suc notes.lost; told = true; at = min notes.at place }
 
--- some that were out are lost
+-- some tickets that were out are lost
 pub record HasLost (before after : Notes) : Type 0 where
   pub sum : after.out + after.lost ≡ before.out + before.lost
   pub fewer : after.out ≤ before.out
   pub rest : after ≡ record before { out = after.out; lost = after.lost }
 
--- one tally is out, the coordinator's. Tickets that are out or lost are claims that are out, at most as many as there are forks; who told of want
--- of memory lost a ticket, and is one of the workers
+-- one tally is out, the coordinator's; tickets that are out or lost are claims that are out, at most as many as forks; a worker that
+-- reported a lack of memory lost a ticket, and its index is within range
 pub record IsUnderWay {R : Type 0} (board : BoardView R) (notes : Notes) : Type 0 where
   pub tally : board.tallies ≡ 1
   pub forks : board.kernel.forks ≤ 64
@@ -55,18 +55,18 @@ pub record IsUnderWay {R : Type 0} (board : BoardView R) (notes : Notes) : Type 
   pub told : notes.told ≡ true → 0 < notes.lost
   pub at : notes.at < board.kernel.forks
 
--- nothing can be given out now: the step is stopped, or as many claims are out as there are forks, or nobody is free
+-- nothing can be issued now: the step is stopped, as many claims are out as there are forks, or no host is free
 abbrev pub IsGivenOut : {R : Type 0} → BoardView R → Notes → Type 0
 IsGivenOut board notes =
     (is_stopped notes ≡ true) ⊎ (board.kernel.forks ≤ claims_out board) ⊎ (find (is_free (roll_of board.kernel) (state_of board.kernel)) (state_of board.kernel).batch ≡ None)
 
--- where the step can end: the coordinator wants memory, or a claim is out, or nobody is free
+-- the step can end: the coordinator ran out of memory, a claim is out, or no host is free
 abbrev pub IsOver : {R : Type 0} → BoardView R → Notes → Type 0
 IsOver board notes =
     (notes.wants ≡ true) ⊎ (0 < claims_out board) ⊎ (find (is_free (roll_of board.kernel) (state_of board.kernel)) (state_of board.kernel).batch ≡ None)
 
--- what was given out, where that was not stopped before, and how the notes changed: nobody is left; or as many claims are out as before, since what
--- is settled is reported at once; or one more
+-- what was issued, if the step was not stopped before, and how the notes changed: no host is left; or as many claims are out as before,
+-- since a settled step is reported at once; or one more
 abbrev pub IsGiven : {R : Type 0} → BoardView R → BoardView R → Notes → Notes → Given → Type 0
 IsGiven before after old new Nobody = IsGivenOut after new × (new ≡ record old { wants = new.wants })
 IsGiven before after old new Settled =
@@ -74,13 +74,13 @@ IsGiven before after old new Settled =
 IsGiven before after old new (given.Ticket ticket) =
     (is_stopped old ≡ false) × (new ≡ with_ticket old) × (claims_out after ≡ suc (claims_out before))
 
--- the same once it is claimed
+-- likewise after the claim
 abbrev pub IsAfterClaim : {R : Type 0} → BoardView R → BoardView R → Notes → Notes → Given → Type 0
 IsAfterClaim before after old new Nobody = ⊥
 IsAfterClaim before after old new Settled = (new ≡ old) × (suc (claims_out after) ≡ claims_out before)
 IsAfterClaim before after old new (given.Ticket ticket) = (new ≡ with_ticket old) × (claims_out after ≡ claims_out before)
 
--- what is settled is the board's own, and is out
+-- a settled completion has the board's own runner, and is out
 abbrev pub IsItsOwn : {R : Type 0} → BoardView R → Claimed R → Type 0
 IsItsOwn board (Run claim go) = Unit {0}
 IsItsOwn board (claimed.Settled done) =
@@ -91,16 +91,16 @@ abbrev pub IsStrange : {R : Type 0} → (R → R → Type 0) → BoardView R →
 IsStrange alike board done =
     (alike board.context.runner done.runner → ⊥) ⊎ (IsOut (roll_of board.kernel) (state_of board.kernel) done.completion → ⊥)
 
--- the ticket stands in the line, or has come back
+-- the ticket is in the channel, or has come back
 abbrev pub IsPut : List Ticket → List Ticket → Ticket → Notes → Notes → Type 0
 IsPut before after ticket old new =
     ((after ≡ before ++ ticket ∷ []) × (new ≡ old)) ⊎ ((after ≡ before) × (new ≡ record old { out = old.out - 1; lost = suc old.lost }))
 
--- the report is in the log, and one claim fewer is out; or it is a stranger to the board
+-- the report is in the log, and one claim fewer is out; or the board rejects it
 abbrev pub IsEntered : {R : Type 0} → (R → R → Type 0) → BoardView R → BoardView R → DoneView R → Type 0
 IsEntered alike old new done =
     ((new ≡ with_event old (event_in done.completion)) × (suc (claims_out new) ≡ claims_out old)) ⊎ ((new ≡ old) × IsStrange alike old done)
 
--- which fault is told where the coordinator wanted memory or not, and a worker told that it did, of the least place
+-- the error to report, given whether the coordinator or a worker ran out of memory, and the lowest index of such a worker
 abbrev pub fault_by : Bool → Bool → ℕ → StepFault
 fault_by wants told at = if wants then Mem else (if told then WorkerMem at else Mixed)

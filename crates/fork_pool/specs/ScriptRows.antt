@@ -12,7 +12,7 @@ line_of row = record { host = row.host.index; step = row.step; ending = ending_o
 abbrev pub lines_of : List Row → List Line
 lines_of rows = map line_of rows
 
--- a program that is run ends so
+-- the line is of a program that is run
 abbrev pub is_run : Line → Bool
 is_run line = is_of_program line.ending
 

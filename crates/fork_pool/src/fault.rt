@@ -1,20 +1,20 @@
-//! Why a step did not come to its end.
+//! Why a step did not complete.
 ghost use Rattle.std.specs.Prelude.{◌≡◌};
 ghost use Rattle.fork_pool.specs.Faults.{number_of};
 
-/// Why a step did not come to its end. The board that comes back with it continues the one that went in.
+/// Why a step did not complete. The board returned with it continues the one passed in.
 #[derive(Clone, Copy, Debug, PartialEq, Eq, Drop)]
 pub enum StepFault {
-    /// The coordinator found no memory, or a worker could not be started.
+    /// The coordinator ran out of memory, or a worker could not be started.
     Mem,
-    /// A worker found no memory: the least place of those that told so.
+    /// A worker ran out of memory: the lowest index of those that reported so.
     WorkerMem { at: usize },
     /// Replies ended too early, or a host on which the step is due has not reported.
     Mixed,
 }
 
 impl StepFault {
-    /// The number of what went wrong; want of memory has none.
+    /// Returns the number of the error; `Mem` has none.
     pub fn number(&self) -> Option<u16>
         ensures { result ≡ number_of self.now }
     {

@@ -1,4 +1,4 @@
-//! The end of a pool that gives out tickets.
+//! The coordinator's end of a pool.
 ghost use Rattle.std.specs.Prelude.{◌≡◌, ◌<◌};
 
 mod giving;
@@ -11,7 +11,7 @@ use roll_core::Runner;
 use std::alloc::Global;
 use ticket_channel::ChannelSender;
 
-/// The end of a pool that its coordinator holds. Once it is dropped the workers end, as soon as no ticket is left.
+/// The end of a pool that its coordinator holds. Once it is dropped, the workers end as soon as no ticket is left.
 #[derive(Drop)]
 pub struct Front<'f, R: Runner> {
     tickets: ChannelSender<Ticket>,
@@ -37,7 +37,7 @@ impl<'f, R: Runner> Front<'f, R> {
         }
     }
 
-    /// How many workers the pool has ends for.
+    /// Returns how many workers the pool has ends for.
     pub fn forks(&self) -> usize
         ensures value { result ≡ self.now.forks }
         ensures some { 0 < result }

@@ -1,10 +1,10 @@
-//! What comes of a claim.
+//! The outcome of a claim.
 use crate::ticket::Ticket;
 
-/// What a claim came to.
+/// The outcome of a claim.
 #[derive(Drop)]
 pub(crate) enum Given {
-    /// Nothing is to be given out now.
+    /// Nothing is to be issued now.
     Nobody,
     /// It had no program, and is reported.
     Settled,

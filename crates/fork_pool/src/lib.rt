@@ -1,5 +1,5 @@
-//! The workers of a step: they run the programs that a board hands out, as many at once as it has forks, while the board stays with one
-//! thread. And a runner that runs nothing, whose programs end as a table says.
+//! The workers of a step. They run the programs that a board issues, up to `forks` at once, while the board stays with one thread. Also a
+//! runner that runs nothing, whose programs end as a table specifies.
 #![tactic(auto)]
 
 mod boards;

@@ -12,8 +12,8 @@ use roll_core::Runner;
 use std::alloc::{AllocError, Global};
 use ticket_channel::line;
 
-/// A pool of so many workers: the end of its coordinator, and one end a worker, by their places. All memory that its channels need
-/// is taken here.
+/// Returns the ends of a pool of `forks` workers: the coordinator's, and one per worker, in index order. Allocates all memory that its
+/// channels need.
 pub fn pool<'f, R: Runner>(
     alloc: Global,
     forks: usize,

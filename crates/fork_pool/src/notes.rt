@@ -1,26 +1,26 @@
-//! How far a step is, and what went wrong with it.
+//! The progress of a step, and its errors.
 ghost use Rattle.std.specs.Prelude.{◌≡◌};
 ghost use Rattle.fork_pool.specs.Inside.{is_stopped, nothing_yet};
 
-/// Which tickets of a step have not come back with a report, and what went wrong until now.
+/// Which tickets of a step have not come back with a report, and what has gone wrong so far.
 #[derive(Clone, Copy, Debug)]
 pub(crate) struct Notes {
-    /// How many tickets are in the line or with workers.
+    /// How many tickets are in the channel or with workers.
     pub(crate) out: usize,
     /// How many came back without a report.
     pub(crate) lost: usize,
-    /// The coordinator found no memory.
+    /// The coordinator ran out of memory.
     pub(crate) wants: bool,
-    /// A worker told that it found none.
+    /// A worker reported that it ran out of memory.
     pub(crate) told: bool,
-    /// The least place that told so; the last one where none did.
+    /// The lowest index of a worker that reported so, or the last index if none did.
     pub(crate) at: usize,
     /// No reply can come any more.
     pub(crate) ended: bool,
 }
 
 impl Notes {
-    /// Nothing has happened yet.
+    /// Returns the state in which nothing has happened yet.
     pub(crate) fn new(last_place: usize) -> Notes
         ensures { result ≡ nothing_yet last_place }
     {
@@ -34,7 +34,7 @@ impl Notes {
         }
     }
 
-    /// Whether something went wrong, so that no ticket is put any more.
+    /// Reports whether an error has stopped the step, so that no ticket is put any more.
     pub(crate) fn is_stopped(&self) -> bool
         ensures { result ≡ is_stopped self.now }
     {

@@ -12,7 +12,8 @@ use std::sync::Wait;
 use std::thread::Threads;
 use ticket_channel::{ChannelReceiver, Taken};
 
-/// The end of the line of tickets for the worker at a place. Nobody else takes from it, so that each ticket that a worker takes is owed a reply.
+/// The receiving end of the ticket channel for the worker at an index. It makes a `PendingReply` of each ticket it takes, so each of them
+/// is owed a reply.
 #[derive(Drop)]
 pub(crate) struct TicketReceiver {
     place: usize,
@@ -27,7 +28,7 @@ impl TicketReceiver {
         TicketReceiver { place, tickets }
     }
 
-    /// Takes a ticket, and waits for one while there is none.
+    /// Takes a ticket, and waits for one if there is none.
     pub(crate) fn take<H: Wait>(&mut self, rt: &H) -> Option<PendingReply>
         ensures some { IfSome result (λ owed. self.new.tickets ≡ record self.old.tickets { taken = self.old.tickets.taken ++ owed.ticket ∷ [] }) }
         ensures by { IfSome result (λ owed. owed.place ≡ self.old.place) }
@@ -43,14 +44,14 @@ impl TicketReceiver {
         }
     }
 
-    /// How many tickets this end has taken.
+    /// Returns how many tickets this end has taken.
     pub(crate) fn taken(&self) -> u64
         ensures { result ≡ length self.now.tickets.taken }
     {
         self.tickets.taken()
     }
 
-    /// How many tickets this end has taken, and which they were. It takes no more.
+    /// Returns how many tickets this end has taken, and which. It takes no more.
     pub(crate) fn finish(self) -> (u64, Taken<Ticket>)
         ensures number { result.0 ≡ length result.1.taken }
         ensures tickets { result.1 ≡ self.tickets }
@@ -59,14 +60,14 @@ impl TicketReceiver {
     }
 }
 
-/// A ticket that the worker at a place has taken. It can't be dropped: whoever takes one owes a reply to it.
+/// A ticket that the worker at an index has taken. It can't be dropped: a taken ticket must be answered.
 pub(crate) struct PendingReply {
     place: usize,
     ticket: Ticket,
 }
 
 impl PendingReply {
-    /// Runs the program of the ticket once, and replies. The reply is dropped where nobody is left to receive it.
+    /// Runs the program of the ticket once, and replies. Drops the reply if its receiver is gone.
     pub(crate) fn answer<
         'f,
         R: Runner,

@@ -1,8 +1,8 @@
-//! What a worker answers to a ticket.
+//! A worker's reply to a ticket.
 use roll_core::{Claim, Done, Runner};
 
-/// From the worker at this place: how the program of its ticket ended, or the claim of the ticket where the worker found no memory. The
-/// program may have run then, and is not run again, since its leave is used up.
+/// The reply of the worker at this index: how the program of its ticket ended, or the claim if the worker ran out of memory. In that case
+/// the program may have run; it is not run again, since its permit is used up.
 #[derive(Drop)]
 pub(crate) struct Reply<'f, R: Runner> {
     pub(crate) place: usize,

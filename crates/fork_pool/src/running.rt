@@ -1,4 +1,4 @@
-//! One step on a pool of its own.
+//! Running one step on its own pool.
 ghost use Rattle.std.specs.Prelude.{◌≡◌, min, vec_len, IfErr, IfOk};
 ghost use Rattle.fork_pool.specs.Faults.{IsFaultOf};
 ghost use Rattle.fork_pool.specs.Steps.{Continues, FrontsHaveFewOut, IsAtRest, IsStepDone, board_in, hosts_due};
@@ -16,8 +16,8 @@ use std::sync::ledger::Ledger;
 use std::thread;
 use std::thread::Threads;
 
-/// Works on the present step of the board until each host on which it is due has reported it. It starts as many workers as there are forks or
-/// hosts due, whichever is less, and joins them.
+/// Runs the board's current step until every host on which it is due has reported it. Starts one worker per fork or per due host, whichever
+/// is fewer, and joins them.
 pub fn run_step<
     'f,
     R: Runner,
@@ -52,7 +52,7 @@ pub fn run_step<
     }
 }
 
-/// Starts a worker for each of these ends. Where one can't be started, the others finish.
+/// Starts a worker for each of these ends. If one can't be started, the others finish.
 fn with_workers<
     'f,
     R: Runner,
@@ -103,7 +103,7 @@ fn with_workers<
     )
 }
 
-/// A step on a board that lives as long as the pool.
+/// Runs a step on a board that lives as long as the pool.
 fn step_alone<'f, R: Runner, L: Ledger, H: Wait, W: Observer>(
     rt: &H,
     alloc: Global,
@@ -121,7 +121,7 @@ fn step_alone<'f, R: Runner, L: Ledger, H: Wait, W: Observer>(
     front.step(rt, alloc, board)
 }
 
-/// The board, whichever way the step ended.
+/// Returns the board, whether or not the step completed.
 fn board_of<'f, R: Runner, L: Ledger, W: Observer>(
     answer: Result<Board<'f, R, L, W>, (StepFault, Board<'f, R, L, W>)>,
 ) -> Board<'f, R, L, W>

@@ -1,4 +1,4 @@
-//! What a script says of the programs of a roll.
+//! A script of how programs end.
 ghost use Rattle.std.specs.Prelude.{◌≡◌, ◌++◌, ◌∷◌, [], true, Decides, OnErr, OnOk};
 ghost use Rattle.host_track.specs.Endings.{ending_of};
 ghost use Rattle.event_log.specs.Rolls.{is_of_program};
@@ -15,7 +15,7 @@ pub use laws::batches_end_by_their_script;
 use std::alloc::{AllocError, Global};
 use std::marker::Model;
 
-/// A table of how programs end, by host and step. The first row of a host and step counts; a program without one ends with 0 and prints
+/// A table of how programs end, by host and step. The first row of a host and step counts; a program without a row ends with 0 and prints
 /// nothing.
 #[derive(Drop)]
 pub struct Script {
@@ -36,7 +36,7 @@ impl Model for Script {
 }
 
 impl Script {
-    /// Each program ends well.
+    /// Returns a script in which every program succeeds.
     pub fn new(alloc: Global) -> Script
         ensures { result ≡ [] }
     {
@@ -45,7 +45,8 @@ impl Script {
         }
     }
 
-    /// The program of this host and step ends so, unless an earlier row says otherwise. Want of memory changes nothing.
+    /// Adds a row: the program of this host and step ends with this outcome, unless an earlier row states otherwise. If an allocation
+    /// fails, changes nothing.
     pub fn push(&mut self, host: HostId, step: usize, outcome: Outcome) -> Result<(), AllocError>
         requires { is_of_program (ending_of outcome) ≡ true }
         ensures ok { OnOk result (self.new ≡ self.old ++ record { host = host.index; step = step; ending = ending_of outcome } ∷ []) }
@@ -60,7 +61,7 @@ impl Script {
     }
 }
 
-/// Whether two tables say the same, row by row.
+/// Reports whether two tables are equal, row by row.
 fn are_same(rows: &[Row], others: &[Row]) -> bool
     ensures { Decides result (lines_of rows.now ≡ lines_of others.now) }
 {

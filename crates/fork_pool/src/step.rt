@@ -15,7 +15,7 @@ use roll_core::{Board, Claim, Claimed, Done, Observer, Runner, Tally};
 use std::alloc::Global;
 use std::sync::ledger::Ledger;
 
-/// A board on whose step workers are at work. One tally counts its reports: the coordinator makes them all.
+/// A board whose step is running on workers. One tally counts its reports, because the coordinator makes them all.
 pub(crate) struct Step<'b, R: Runner, L: Ledger, W: Observer> {
     board: Board<'b, R, L, W>,
     tally: Tally<L>,
@@ -38,21 +38,21 @@ impl<'b, R: Runner, L: Ledger, W: Observer> Step<'b, R, L, W> {
         }
     }
 
-    /// Whether every ticket that was put has come back.
+    /// Reports whether every ticket that was put has come back.
     pub(crate) fn is_answered(&self) -> bool
         ensures { result ≡ nat_eq self.now.notes.out 0 }
     {
         self.notes.out == 0
     }
 
-    /// Whether something went wrong, so that no ticket is put any more.
+    /// Reports whether an error has stopped the step, so that no ticket is put any more.
     pub(crate) fn is_stopped(&self) -> bool
         ensures { result ≡ is_stopped self.now.notes }
     {
         self.notes.is_stopped()
     }
 
-    /// Claims a host. What is settled without a program is reported at once.
+    /// Claims a host. A step that settles without a program is reported at once.
     pub(crate) fn give(&mut self, alloc: Global) -> Given
         ensures board { Continues self.old.board self.new.board }
         ensures given { IsGiven self.old.board self.new.board self.old.notes self.new.notes result }
@@ -91,7 +91,8 @@ impl<'b, R: Runner, L: Ledger, W: Observer> Step<'b, R, L, W> {
         }
     }
 
-    /// Enters what a worker answered to a ticket. A program whose worker found no memory for its end is not run again: its claim is stranded.
+    /// Records a worker's reply to a ticket. If the worker ran out of memory when its program ended, the program is not run again: its
+    /// claim is stranded.
     pub(crate) fn enter<'f>(&mut self, reply: Reply<'f, R>)
     where
         'f: 'b,
@@ -115,7 +116,7 @@ impl<'b, R: Runner, L: Ledger, W: Observer> Step<'b, R, L, W> {
         }
     }
 
-    /// A ticket is back whose program has not come to an end that can be told. One of another step is not counted.
+    /// Takes back a ticket without a reportable end. A ticket of another step is not counted.
     pub(crate) fn strand(&mut self, claim: Claim)
         ensures board { self.new.board ≡ self.old.board }
         ensures notes { HasLost self.old.notes self.new.notes }
@@ -128,7 +129,7 @@ impl<'b, R: Runner, L: Ledger, W: Observer> Step<'b, R, L, W> {
         }
     }
 
-    /// No reply can come any more.
+    /// Records that no reply can come any more.
     pub(crate) fn cut_short(&mut self)
         ensures board { self.new.board ≡ self.old.board }
         ensures notes { self.new.notes ≡ record self.old.notes { ended = true } }
@@ -136,7 +137,7 @@ impl<'b, R: Runner, L: Ledger, W: Observer> Step<'b, R, L, W> {
         self.notes.ended = true;
     }
 
-    /// A report that is handed back is dropped: its host has then not reported.
+    /// Reports the end of a step. A rejected report is dropped, and its host then has not reported.
     fn report(&mut self, done: Done<'b, R>)
         requires { self.old.notes.out + self.old.notes.lost < claims_out self.old.board }
         ensures board { Continues self.old.board self.new.board }
@@ -147,8 +148,8 @@ impl<'b, R: Runner, L: Ledger, W: Observer> Step<'b, R, L, W> {
         let _ = self.board.report(done, &mut self.tally);
     }
 
-    /// The board, with its tally back. The coordinator's want of memory goes before that of a worker, and this before a host that has not
-    /// reported.
+    /// Returns the board, with its tally joined. If several things went wrong, reports the coordinator's lack of memory first, then a
+    /// worker's, then a host that has not reported.
     pub(crate) fn end(self) -> Result<Board<'b, R, L, W>, (StepFault, Board<'b, R, L, W>)>
         requires { IsOver self.board self.notes }
         ensures done { IfOk result IsStepDone }

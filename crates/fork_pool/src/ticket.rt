@@ -1,4 +1,4 @@
-//! What a worker is given.
+//! What a worker receives.
 ghost use Rattle.std.specs.Prelude.{◌≡◌, IfErr, IfOk};
 ghost use Rattle.roll_core.specs.RunPermits.{IsGoOf};
 ghost use Rattle.fork_pool.specs.Replies.{IsEndOf};
@@ -9,8 +9,8 @@ use std::process::{Processes, SystemProcess};
 use std::sync::Wait;
 use std::thread::Threads;
 
-/// A claim, with the leave to run its program once. The two belong together. It can't be copied; whoever drops it leaves the host of the
-/// claim down and its batch open.
+/// A claim, with the matching permit to run its program once. It can't be copied. If it is dropped, the host of the claim stays down and
+/// its batch stays open.
 #[derive(Drop)]
 pub struct Ticket {
     pub(crate) claim: Claim,
@@ -26,7 +26,7 @@ impl Ticket {
         Ticket { claim, go }
     }
 
-    /// The claim without its leave: the program is not run.
+    /// Returns the claim without its permit: the program is not run.
     pub(crate) fn into_claim(self) -> Claim
         ensures { result ≡ self.claim }
     {
@@ -34,7 +34,7 @@ impl Ticket {
         claim
     }
 
-    /// Runs the program once. Want of memory gives the claim.
+    /// Runs the program once. If an allocation fails, returns the claim.
     pub(crate) fn run<'f, R: Runner, H: Threads + Wait + Processes<Started = SystemProcess> + Sync>(
         self,
         rt: &H,

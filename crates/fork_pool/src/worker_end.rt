@@ -1,4 +1,4 @@
-//! The end of a pool that works.
+//! A worker's end of a pool.
 ghost use Rattle.std.specs.Prelude.{◌≡◌, ◌≤◌, suc, length, MatchBool};
 
 use crate::pending_reply::TicketReceiver;
@@ -12,7 +12,7 @@ use std::sync::Wait;
 use std::thread::Threads;
 use ticket_channel::Taken;
 
-/// What one worker of a pool holds: its end of the line of tickets, with its place, and its end of the channel for replies.
+/// What one worker of a pool holds: its end of the ticket channel, with its index, and its end of the channel for replies.
 #[derive(Drop)]
 pub struct WorkerEnd<'f, R: Runner> {
     pub(crate) taker: TicketReceiver,
@@ -20,8 +20,8 @@ pub struct WorkerEnd<'f, R: Runner> {
 }
 
 impl<'f, R: Runner> WorkerEnd<'f, R> {
-    /// Runs the program of the next ticket, for which it waits, and replies. The reply is dropped where nobody is left to receive it. False
-    /// is told where no ticket can come any more.
+    /// Waits for the next ticket, runs its program and replies. Drops the reply if its receiver is gone. Returns false if no ticket can
+    /// come any more.
     pub fn serve_one<H: Threads + Wait + Processes<Started = SystemProcess> + Sync>(
         &mut self,
         rt: &H,
@@ -39,8 +39,8 @@ impl<'f, R: Runner> WorkerEnd<'f, R> {
         true
     }
 
-    /// Runs the programs of tickets until none can come. Each ticket is answered once; the reply is dropped where nobody is left to
-    /// receive it. Answers how many tickets this end has taken.
+    /// Runs the programs of tickets until none can come. Each ticket is answered once; a reply is dropped if its receiver is gone. Returns
+    /// how many tickets this end has taken.
     pub fn serve<H: Threads + Wait + Processes<Started = SystemProcess> + Sync>(
         &mut self,
         rt: &H,
@@ -61,8 +61,8 @@ impl<'f, R: Runner> WorkerEnd<'f, R> {
     }
 }
 
-/// The same with an end that nobody needs afterwards: it is given up, so that the coordinator sees when no worker is left. Answers how many
-/// tickets the end took, and which they were.
+/// Serves likewise with an end that is not needed afterwards. Gives the end up, so that the coordinator sees when no worker is left.
+/// Returns how many tickets the end took, and which.
 pub fn serve<'f, R: Runner, H: Threads + Wait + Processes<Started = SystemProcess> + Sync>(
     rt: &H,
     alloc: Global,

@@ -1,4 +1,4 @@
--- How deep a group's places are, by its children.
+-- The depth of a group's places, by its children.
 use Rattle.std.proofs.Common.{◌≡◌, ℕ, suc, ◌+◌, ◌<◌, ◌≤◌, Bool, true, false, ◌&&◌, leb, List, [], ◌∷◌, length, get_or, take, sym, ap, subst, ◌∙◌, refl, arith, add-one}
 use Rattle.std.specs.List.{list_all, flat_map}
 use Rattle.std.proofs.Math.Dec.{leb-suc-suc}
@@ -19,7 +19,7 @@ list_all-flat_map test f [] = refl
 list_all-flat_map test f (x ∷ xs) =
     list_all-append test (f x) (flat_map f xs) ∙ ap (λ rest. list_all test (f x) && rest) (list_all-flat_map test f xs)
 
--- one group further down a place is one deeper
+-- one group further down, a place is one deeper
 within-under : (name : Name) (depth : ℕ) (place : Place) → leb (depth_of (place_under name place)) (depth + 1) ≡ leb (depth_of place) depth
 within-under name depth place =
     rw (add-one (suc (length place.above)), add-one depth, add-one (length place.above)) (leb-suc-suc (suc (length place.above)) depth)
@@ -32,7 +32,7 @@ within_parts group left =
     let same = list_all-same (λ place. at_most (place_under group.name place)) below (within-under group.name left) group.below.places in
     rw top (list_all-map at_most (place_under group.name) group.below.places ∙ same)
 
--- a group is within a depth where its children are within one less
+-- a group is within a depth if its children are within one less
 module _ (group : Subtree) (children : List Subtree) (parts : side_by_side children ≡ group.below) (left depth : ℕ) (more : depth ≡ left + 1) where
   parts_within : are_within_depth depth (places_of group) ≡ list_all (λ child. are_within_depth left (places_of child)) children
   parts_within =

@@ -1,4 +1,4 @@
--- Looking a variable up from the front, the later one winning.
+-- Reading a variable from the front, with later ones winning.
 use Rattle.std.proofs.Common.{◌≡◌, ℕ, ◌+◌, ◌<◌, Bool, true, false, cond, Option, Some, None, List, length, get_or, drop, sym, refl}
 use Rattle.std.specs.Option.{option_or}
 use Rattle.std.proofs.lemmas.List.{drop_more}
@@ -18,7 +18,7 @@ module _ (name : Name) (variables : List Variable) (i : ℕ) (variable : Variabl
   next test e =
       sym (rw (drop_more variables i variable within, ← is) (rw e (option_or-choice (value_of name (drop (i + 1) variables)) found test variable.value)))
 
-  -- a variable of the name takes the place of what was found before it
+  -- a variable with the name replaces what was found before it
   pub value_of-takes : same_name name variable.name ≡ true
       → option_or (value_of name (drop (i + 1) variables)) (Some variable.value) ≡ option_or (value_of name (drop i variables)) found
   value_of-takes = next true

@@ -1,4 +1,4 @@
--- The names of the first groups of a walk, child by child.
+-- The names of the first groups in preorder, child by child.
 use Rattle.std.proofs.Common.{◌≡◌, ℕ, zero, suc, ◌+◌, ◌-◌, ◌<◌, ◌≤◌, Bool, true, false, ◌||◌, List, [], ◌∷◌, ◌++◌, length, map, get_or, take, drop, sym, ap, ◌∙◌, refl, arith}
 use Rattle.std.proofs.lemmas.Bool.{or_left}
 use Rattle.std.proofs.lemmas.List.{drop_more, drop_all, map-append, length-map}
@@ -8,11 +8,11 @@ use Rattle.group_tree.specs.Places.{Place, Inventory}
 use Rattle.group_tree.specs.Subtrees.{Subtree, place_under, places_of, side_by_side}
 use Rattle.group_tree.specs.Bounds.{group_names}
 
--- the names of several groups, each with all below it
+-- the names of several groups, each with all groups below it
 abbrev names_of : List Subtree → List Name
 names_of groups = group_names (side_by_side groups).places
 
--- a name among the first of a list of names
+-- a name among the first names of a list
 abbrev is_within : Name → ℕ → List Name → Bool
 is_within name count names = is_among name (take count names)
 
@@ -26,14 +26,14 @@ take-append (suc n) [] ys = let e : suc n - 0 ≡ suc n = omega arith in rw e re
 take-append (suc n) (x ∷ xs) ys =
     ap (λ rest. x ∷ rest) (take-append n xs ys) ∙ (let e : n - length xs ≡ suc n - suc (length xs) = omega arith in ap (λ k. x ∷ (take n xs ++ take k ys)) e)
 
--- a name among the first of two walks, one after the other
+-- a name among the first of two concatenated lists
 is_among-walks : (name : Name) (left : ℕ) (first after : List Name)
     → is_within name left (first ++ after) ≡ (is_within name left first || is_within name (left - length first) after)
 is_among-walks name left first after =
     ap (λ names. is_among name names) (take-append left first after) ∙ list_any-append (same_name name) (take left first) (take (left - length first) after)
 
 module _ (group : Subtree) (children : List Subtree) (parts : side_by_side children ≡ group.below) where
-  -- beside its own name a group has those of its children
+  -- in addition to its own name, a group has those of its children
   names_within-parts : (name : Name) (left count : ℕ) → count ≡ left + 1
       → is_within name count (group_names (places_of group)) ≡ (same_name name group.name || is_within name left (names_of children))
   names_within-parts name left count more =
@@ -45,7 +45,7 @@ module _ (group : Subtree) (children : List Subtree) (parts : side_by_side child
   names_within-below name left count answer more elsewhere below =
       sym (names_within-parts name left count more ∙ rw elsewhere (sym below))
 
--- at a child the walk splits into the child and what comes after it
+-- at a child, the list splits into the child and what follows it
 module _ (children : List Subtree) (i : ℕ) (child : Subtree) (within : i < length children) (is : child ≡ get_or children i child) where
   pub places-split : (side_by_side (drop i children)).places ≡ places_of child ++ (side_by_side (drop (i + 1) children)).places
   places-split =

@@ -1,4 +1,4 @@
--- The group at a place of a walk, child by child.
+-- The group at an index in preorder, child by child.
 use Rattle.std.proofs.Common.{◌≡◌, ℕ, zero, suc, ◌+◌, ◌-◌, ◌<◌, ◌≤◌, Some, List, [], ◌∷◌, ◌++◌, length, get_or, drop, sym, ap, ◌∙◌, refl, arith, slice_get, length-append}
 use Rattle.std.specs.Option.{option_map}
 use Rattle.std.proofs.lemmas.Option.{slice_get-map}
@@ -8,14 +8,14 @@ use Rattle.group_tree.specs.Trees.{IsGroupAt, under_path}
 use Rattle.group_tree.proofs.NamesWithin.{places-split}
 use Rattle.group_tree.proofs.Stands.{stands-itself, stands-child}
 
--- the places of groups side by side, and of those from a number on
+-- the places of groups in sequence, and of those from a number on
 abbrev pub all_places : List Subtree → List Place
 all_places groups = (side_by_side groups).places
 
 abbrev pub places_from : List Subtree → ℕ → List Place
 places_from groups i = all_places (drop i groups)
 
--- the place looked for among the children is the one that is left among those still to come
+-- the place searched for among the children is the remaining one among those still to come
 pub record IsAtChild (children : List Subtree) (i left start : ℕ) : Type 0 where
   pub same : slice_get (places_from children i) left ≡ slice_get (all_places children) start
   pub counted : left + length (all_places children) ≡ start + length (places_from children i)
@@ -38,7 +38,7 @@ IsGroupAt-itself group index first =
 
 module _ (group : Subtree) (children : List Subtree) (parts : side_by_side children ≡ group.below) (i : ℕ) (child : Subtree)
     (within : i < length children) (is : child ≡ get_or children i child) where
-  -- the group found in a child stands one deeper in its parent
+  -- the group found in a child is one deeper in its parent
   pub IsGroupAt-child : (left start index : ℕ) (found : Subtree) (depth : ℕ) → index ≡ start + 1
       → slice_get (places_from children i) left ≡ slice_get (all_places children) start → left < length (places_of child)
       → IsGroupAt (inventory_of child) left found depth → IsGroupAt (inventory_of group) index found (depth + 1)

@@ -1,4 +1,4 @@
--- The first name of a list that stood before.
+-- The first name of a list that occurs before.
 use Rattle.std.proofs.Common.{◌≡◌, ℕ, ◌+◌, ◌<◌, true, false, not, List, [], ◌∷◌, ◌++◌, length, get_or, take, sym, ap, subst, ◌∙◌, refl}
 use Rattle.std.proofs.lemmas.Bool.{or_parts, or_from, and_parts, and_from, not-true, not_from_false, false_from_ne_true, both_ways}
 use Rattle.std.proofs.lemmas.List.{take_more}
@@ -26,13 +26,13 @@ are_distinct-push (first ∷ names) name distinct new =
     let absent = list_any-append (same_name first) names (name ∷ []) ∙ or_from _ _ (not-true _ had.0) other in
     and_from _ _ (not_from_false _ absent) (are_distinct-push names name had.1 apart.1)
 
--- a name that did not stand before keeps the names distinct
+-- a name that does not occur before keeps the names distinct
 pub are_distinct-more : (names : List Name) (i : ℕ) → i < length names → are_distinct (take i names) ≡ true
     → is_among (get_or names i []) (take i names) ≡ false → are_distinct (take (i + 1) names) ≡ true
 are_distinct-more names i within distinct new =
     ap are_distinct (take_more names i [] within) ∙ are_distinct-push (take i names) (get_or names i []) distinct new
 
--- the name of the group at a place
+-- the name of the group at an index
 pub IsGroupAt-name : (tree : Inventory) (index : ℕ) (group : Subtree) (depth : ℕ) → IsGroupAt tree index group depth → group.name ≡ get_or (group_names tree.places) index []
 IsGroupAt-name tree index group depth at =
     let name : Place → Name = λ place. place.name in

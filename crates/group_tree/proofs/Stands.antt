@@ -1,4 +1,4 @@
--- What stands in a child stands in its parent.
+-- What is contained in a child is contained in its parent.
 use Rattle.std.proofs.Common.{◌≡◌, ℕ, zero, suc, ◌<◌, List, [], ◌∷◌, ◌++◌, length, map, get_or, refl, sym, ap, subst, ◌∙◌, arith}
 use Rattle.std.proofs.lemmas.List.{append-nil, append_assoc, map-append}
 use Rattle.group_tree.specs.Places.{Inventory}

@@ -1,4 +1,4 @@
--- A walk over a group goes on to its children.
+-- A traversal of a group continues with its children.
 use Rattle.std.proofs.Common.{◌≡◌, ℕ, zero, suc, ◌<◌, List, [], ◌∷◌, length, get_or, sym, ap, subst, arith, length-append}
 use Rattle.std.proofs.lemmas.List.{length-map}
 use Rattle.group_tree.specs.Places.{Inventory}

@@ -1,4 +1,4 @@
--- The bounds that an inventory has to keep to be accepted as a tree of groups.
+-- The bounds that an inventory must respect to be accepted as a tree of groups.
 use Rattle.std.specs.Prelude.{◌≡◌, ℕ, ◌≤◌, ◌<◌, ◌+◌, Bool, IsTrue, nat_le, List, [], map, take, get_or, length}
 use Rattle.std.specs.List.{list_all}
 use Rattle.group_tree.specs.Names.{Name, is_among, are_distinct}
@@ -20,7 +20,7 @@ group_names places = map (λ (place : Place). place.name) places
 abbrev pub are_within_depth : ℕ → List Place → Bool
 are_within_depth depth places = list_all (λ place. nat_le (depth_of place) depth) places
 
--- group names are distinct, and depth, groups and rows are within their bounds; the places are a preorder walk
+-- group names are distinct, and depth, groups and rows are within their bounds; the places are in preorder
 pub record IsWithinBounds (inventory : Inventory) : Type 0 where
   pub distinct : IsTrue (are_distinct (group_names inventory.places))
   pub depth : IsTrue (are_within_depth depth_bound inventory.places)
@@ -28,7 +28,7 @@ pub record IsWithinBounds (inventory : Inventory) : Type 0 where
   pub rows : length inventory.rows ≤ rows_bound
   pub preorder : IsTrue (is_preorder inventory.places)
 
--- the number, counted from 1, of the first name that stood before
+-- the number, counted from 1, of the first name that occurs before
 pub record IsFirstRepeat (names : List Name) (number : ℕ) : Type 0 where
   pub index : ℕ
   pub counted : number ≡ index + 1

@@ -1,12 +1,12 @@
--- How many hosts of a group may be down at once.
+-- The limit on hosts of a group that are down at once.
 use Rattle.std.specs.Prelude.{ℕ, ◌*◌, ◌/◌}
 
--- a number of hosts, or so many of each hundred of the group's hosts
+-- a number of hosts, or a percentage of the group's hosts
 pub data Limit : Type 0 where
   Count : ℕ → Limit
   Percent : ℕ → Limit
 
--- the number of hosts that a limit allows to be down in a group with so many members, rounded down
+-- the number of hosts that can be down in a group with this many members, rounded down
 abbrev pub allowed : Limit → ℕ → ℕ
 allowed (Count hosts) members = hosts
 allowed (Percent share) members = share * members / 100

@@ -1,4 +1,4 @@
--- What the faults print.
+-- The messages of the errors.
 use Rattle.std.specs.Prelude.{ℕ, List, ◌++◌, codes, decimal}
 use Rattle.group_tree.specs.declared.fault.GroupFault.{GroupFault}
 use Rattle.group_tree.specs.declared.fault.GroupFault.TheVariants as group

@@ -1,4 +1,4 @@
--- What a limit says.
+-- The meaning of a limit.
 use Rattle.group_tree.specs.DownLimits as model
 use Rattle.group_tree.specs.declared.limit.Limit.{Limit}
 use Rattle.group_tree.specs.declared.limit.Limit.TheVariants as limit

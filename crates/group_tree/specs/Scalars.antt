@@ -1,4 +1,4 @@
--- What a scalar says, lent or kept.
+-- The values of scalars, borrowed or stored.
 use Rattle.std.specs.Prelude.{ℕ, List}
 use Rattle.std.specs.Borrow.{Bor}
 use Rattle.std.specs.String.{string_bytes}
@@ -18,6 +18,6 @@ kept_scalar (kept.Text text) = model.Text (string_bytes text)
 kept_scalar (kept.Int number) = model.Int number
 kept_scalar (kept.Bool truth) = model.Truth truth
 
--- a variable as it is handed in
+-- a variable as passed by the caller
 abbrev pub lent_variable : Bor (List ℕ) × Scalar → model.Variable
 lent_variable variable = record { name = variable.0.now; value = lent_scalar variable.1 }

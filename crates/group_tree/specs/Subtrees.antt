@@ -1,4 +1,4 @@
--- A group with all that stands below it, and the inventory that it is.
+-- A group with everything below it, and its inventory.
 use Rattle.std.specs.Prelude.{ℕ, Option, List, [], ◌∷◌, ◌++◌, map}
 use Rattle.std.specs.List.{flat_map}
 use Rattle.group_tree.specs.Names.{Name}
@@ -6,12 +6,12 @@ use Rattle.group_tree.specs.DownLimits.{Limit}
 use Rattle.group_tree.specs.Variables.{Variable}
 use Rattle.group_tree.specs.Places.{Place, Row, Inventory}
 
--- a host as its group lists it
+-- a host as listed by its group
 pub record Host : Type 0 where
   pub name : Name
   pub variables : List Variable
 
--- a group's own parts, and the places and rows of its children, with paths that begin at the child
+-- a group's own parts, and the places and rows of its children, with paths that start at the child
 pub record Subtree : Type 0 where
   pub name : Name
   pub limit : Option Limit
@@ -46,7 +46,7 @@ rows_of group = map (own_row group.name) group.hosts ++ map (row_under group.nam
 abbrev pub inventory_of : Subtree → Inventory
 inventory_of group = record { places = places_of group; rows = rows_of group }
 
--- several groups side by side, in their order
+-- several groups in sequence
 abbrev pub side_by_side : List Subtree → Inventory
 side_by_side groups = record { places = flat_map places_of groups; rows = flat_map rows_of groups }
 
@@ -55,7 +55,7 @@ abbrev pub beside : Inventory → Inventory → Inventory
 beside inventory after =
     record { places = inventory.places ++ after.places; rows = inventory.rows ++ after.rows }
 
--- a group that lists one more host, after the others
+-- a group with one more host, after the others
 abbrev pub with_host : Subtree → Host → Subtree
 with_host group host = record group { hosts = group.hosts ++ host ∷ [] }
 

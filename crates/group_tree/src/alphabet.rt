@@ -6,7 +6,8 @@ ghost use Rattle.group_tree.specs.Names as names;
 /// The longest name, in bytes.
 pub const NAME_BOUND: usize = 255;
 
-/// Whether a text may name a group or a host: 1 to 255 bytes, each an ASCII letter or digit, `.`, `-` or `_`.
+/// Returns whether a string can name a group or a host: 1 to 255 bytes, each an ASCII letter or digit, `.`, `-` or
+/// `_`.
 pub fn is_name(text: &str) -> bool
     ensures { result ≡ names.is_name text.now }
 {

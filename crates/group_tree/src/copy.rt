@@ -1,11 +1,11 @@
-//! The same group in another allocator.
+//! Copies of a group in another allocator.
 ghost use Rattle.std.specs.Prelude.{◌≡◌, IfOk};
 
 use crate::group::Group;
 use std::alloc::{AllocError, Allocator};
 
 impl<A: Allocator> Group<A> {
-    /// The same group, with all below it, in another allocator.
+    /// Copies the group, with all groups below it, to another allocator.
     pub fn copy_to<B: Allocator + Clone>(&self, alloc: B) -> Result<Group<B>, AllocError>
         ensures { IfOk result (λ copy. copy ≡ self.now) }
     {

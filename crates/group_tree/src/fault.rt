@@ -1,13 +1,13 @@
-//! What a group or a tree refuses.
+//! What a group or a tree rejects.
 
 use std::alloc::{AllocError, AllocFailed};
 use std::error::Error;
 use std::fmt;
 
-/// Why a group, a host or a tree's part was not made.
+/// Why a group, a host or a part of a tree was not created.
 #[derive(Clone, Copy, Debug, PartialEq, Eq)]
 pub enum GroupFault {
-    /// The name has no byte or over 255, or a byte that is no ASCII letter or digit, `.`, `-` or `_`.
+    /// The name is empty or over 255 bytes, or has a byte that is not an ASCII letter or digit, `.`, `-` or `_`.
     BadName,
     Memory,
 }
@@ -53,10 +53,11 @@ impl<T: Drop> From<AllocFailed<T>> for GroupFault {
     }
 }
 
-/// Why a group with all below it is no tree: the first rule that it breaks, in this order.
+/// Why a group and all below it are not a valid tree: the first rule that they break, in this order.
 #[derive(Clone, Copy, Debug, PartialEq, Eq)]
 pub enum TreeFault {
-    /// Two groups have one name. `group` is the preorder number, counted from 1, of the first whose name stood before.
+    /// Two groups have the same name. `group` is the preorder number, counted from 1, of the first group whose name
+    /// occurs before.
     TwicePlaced { group: usize },
     /// A group is deeper than `DEPTH_BOUND`.
     TooDeep,

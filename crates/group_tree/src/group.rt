@@ -1,4 +1,4 @@
-//! A group of hosts, with all that stands below it.
+//! A group of hosts, with everything below it.
 ghost use Rattle.std.specs.Prelude.{◌≡◌, ◌↔◌, IfOk, map, [], ◌∷◌, ◌++◌, OnOk, OnErr, IfErr, IsTrue, IsFalse, length};
 ghost use Rattle.std.specs.Result.{IsErrOf};
 ghost use Rattle.std.specs.Option.{option_map};
@@ -18,8 +18,8 @@ use crate::variable::{Variable, copy_variables, keep_all, look_up};
 use std::alloc::{AllocError, AllocFailed, Allocator};
 use std::marker::Model;
 
-/// A group: its name, its limit, its variables, the hosts that it lists itself, and its children, each in the order
-/// in which it was added.
+/// A group: its name, its limit, its variables, the hosts that it lists itself, and its children. Each list is in the
+/// order of addition.
 #[derive(Drop)]
 pub struct Group<A: Allocator> {
     name: String<A>,
@@ -27,7 +27,7 @@ pub struct Group<A: Allocator> {
     variables: Vec<Variable<A>, A>,
     hosts: Vec<Host<A>, A>,
     children: Vec<Group<A>, A>,
-    // How many groups and host rows stand at or below this group, so that no walk has to count them.
+    // The numbers of groups and host rows at or below this group, so that no traversal has to count them.
     groups: usize,
     rows: usize,
 }
@@ -59,7 +59,7 @@ impl<A: Allocator> Group<A> {
         self.name.as_str()
     }
 
-    /// How many of the hosts at or below this group may be down at once, where it says so.
+    /// Returns the limit on hosts down at once at or below this group, if it has one.
     pub fn limit(&self) -> Option<Limit>
         ensures { option_map limit_of result ≡ self.now.limit }
     {
@@ -72,21 +72,21 @@ impl<A: Allocator> Group<A> {
         self.variables.as_slice()
     }
 
-    /// The value of the group's own variable of this name.
+    /// Returns the value of the group's own variable with this name.
     pub fn variable(&self, name: &str) -> Option<Scalar<'_>>
         ensures { option_map lent_scalar result ≡ model.value_of name.now self.now.variables }
     {
         look_up(self.variables.as_slice(), name)
     }
 
-    /// The hosts that the group lists itself.
+    /// Returns the hosts that the group lists itself.
     pub fn hosts(&self) -> &[Host<A>]
         ensures { result.now ≡ self.now.hosts }
     {
         self.hosts.as_slice()
     }
 
-    /// How many groups there are, this one and all below it.
+    /// Returns the number of groups, this one and all below it.
     pub(crate) fn groups(&self) -> usize
         ensures count { result ≡ length (subtrees.places_of self.now) }
         ensures preorder { IsTrue (is_preorder (subtrees.places_of self.now)) }
@@ -94,7 +94,7 @@ impl<A: Allocator> Group<A> {
         self.groups
     }
 
-    /// How many host rows there are, of this group and all below it.
+    /// Returns the number of host rows, of this group and all below it.
     pub(crate) fn rows(&self) -> usize
         ensures { result ≡ length (subtrees.rows_of self.now) }
     {
@@ -109,7 +109,7 @@ impl<A: Allocator> Group<A> {
 }
 
 impl<A: Allocator + Clone> Group<A> {
-    /// A group without hosts and children. Of two variables under one name the later counts.
+    /// Creates a group without hosts and children. If two variables have the same name, the later one counts.
     pub fn new(
         alloc: A,
         name: &str,
@@ -126,7 +126,7 @@ impl<A: Allocator + Clone> Group<A> {
         Ok(Group::of_name(alloc, name, limit, variables)?)
     }
 
-    /// The same of a name that is known to be one, so that memory alone is refused.
+    /// Likewise for a name that is known to be valid. Fails only if an allocation fails.
     pub fn of_name(
         alloc: A,
         name: &str,
@@ -148,7 +148,7 @@ impl<A: Allocator + Clone> Group<A> {
         })
     }
 
-    /// Lists one more host, after the others; it may be listed twice. A refused call leaves the group as it was.
+    /// Adds a host after the others; a host can be listed twice. A failed call leaves the group as it was.
     pub fn add_host(
         &mut self,
         name: &str,
@@ -165,7 +165,7 @@ impl<A: Allocator + Clone> Group<A> {
         Ok(self.add_host_of_name(name, variables)?)
     }
 
-    /// The same of a name that is known to be one, so that memory alone is refused.
+    /// Likewise for a name that is known to be valid. Fails only if an allocation fails.
     pub fn add_host_of_name(
         &mut self,
         name: &str,
@@ -187,13 +187,13 @@ impl<A: Allocator + Clone> Group<A> {
         Ok(())
     }
 
-    /// Takes one more child, after the others. Where memory is refused it comes back, and the group is as it was.
+    /// Adds a child after the others. If an allocation fails, it returns the child and leaves the group as it was.
     pub fn add_child(&mut self, child: Group<A>) -> Result<(), AllocFailed<Group<A>>>
         ensures ok { OnOk result (self.new ≡ subtrees.with_child self.old child) }
         ensures err { OnErr result (self.new ≡ self.old) }
         ensures child_returned { IfErr result (λ refused. refused.value ≡ child) }
     {
-        // No memory holds as many groups as these sums could count.
+        // No memory holds more groups than these sums can count.
         let Some(groups) = self.groups.checked_add(child.groups) else {
             return Err(AllocFailed { value: child });
         };
@@ -208,7 +208,7 @@ impl<A: Allocator + Clone> Group<A> {
 }
 
 impl<A: Allocator> Group<A> {
-    /// This group without its children, in another allocator.
+    /// Copies this group without its children to another allocator.
     pub(crate) fn without_children<B: Allocator + Clone>(
         &self,
         alloc: B,

@@ -1,4 +1,4 @@
-//! A host as a group lists it.
+//! A host as listed by a group.
 ghost use Rattle.std.specs.Prelude.{◌≡◌, IfOk, map};
 ghost use Rattle.std.specs.Option.{option_map};
 ghost use Rattle.group_tree.specs.Variables as model;
@@ -9,7 +9,7 @@ use crate::variable::{Variable, copy_variables, look_up};
 use std::alloc::{AllocError, Allocator};
 use std::marker::Model;
 
-/// A host's name, and its variables at this place.
+/// A host's name and its variables in this group.
 #[derive(Drop)]
 pub struct Host<A: Allocator> {
     pub(crate) name: String<A>,
@@ -38,7 +38,7 @@ impl<A: Allocator> Host<A> {
         self.variables.as_slice()
     }
 
-    /// The value of the host's variable of this name, at this place.
+    /// Returns the value of the host's variable with this name in this group.
     pub fn variable(&self, name: &str) -> Option<Scalar<'_>>
         ensures { option_map lent_scalar result ≡ model.value_of name.now self.now.variables }
     {
@@ -56,7 +56,7 @@ impl<A: Allocator + Clone> Host<A> {
     }
 }
 
-/// The same hosts in another allocator.
+/// Copies the hosts to another allocator.
 pub(crate) fn copy_hosts<A: Allocator, B: Allocator + Clone>(
     alloc: B,
     hosts: &[Host<A>],

@@ -1,4 +1,4 @@
-//! What an inventory is, and its groups as a tree that keeps its bounds.
+//! The contents of an inventory, and its groups as a tree that respects its bounds.
 #![tactic(auto)]
 
 mod alphabet;

@@ -1,11 +1,11 @@
-//! How many hosts of a group may be down at once.
+//! The limit on hosts of a group that are down at once.
 ghost use Rattle.std.specs.Prelude.{◌≡◌, ℕ, ◌<◌, ◌≤◌, ◌*◌, ◌/◌, MatchOption};
 ghost use Rattle.group_tree.specs.DownLimits as model;
 ghost use Rattle.group_tree.specs.Limits.{limit_of};
 
 use std::marker::Model;
 
-/// A whole number from 0 to 100.
+/// An integer from 0 to 100.
 #[derive(Clone, Copy, Debug, PartialEq, Eq)]
 pub struct Percentage {
     value: u8,
@@ -24,7 +24,7 @@ impl Model for Percentage {
 }
 
 impl Percentage {
-    /// Nothing for a number over 100.
+    /// Creates a percentage. Returns `None` for a number over 100.
     pub fn new(value: u8) -> Option<Percentage>
         ensures { MatchOption result (100 < value) (λ percentage. (percentage ≡ value) × (value ≤ 100)) }
     {
@@ -43,16 +43,16 @@ impl Percentage {
     }
 }
 
-/// How many of the hosts at or below a group may be down at once.
+/// The limit on hosts at or below a group that are down at once.
 #[derive(Clone, Copy, Debug, PartialEq, Eq)]
 pub enum Limit {
     Count(u16),
-    /// So many of each hundred hosts, rounded down.
+    /// This many of each hundred hosts, rounded down.
     Percent(Percentage),
 }
 
 impl Limit {
-    /// How many hosts the limit allows to be down in a group with so many members.
+    /// Returns the number of hosts that can be down in a group with this many members.
     pub fn allowed(self, members: u16) -> u16
         ensures number { result ≡ model.allowed (limit_of self) members }
         ensures within { (share : ℕ) → limit_of self ≡ model.Percent share → result ≤ members }

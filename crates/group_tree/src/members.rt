@@ -1,4 +1,4 @@
-//! Which hosts a group holds.
+//! The hosts that a group contains.
 ghost use Rattle.std.specs.Prelude.{◌≡◌};
 ghost use Rattle.std.specs.List.{list_any};
 ghost use Rattle.group_tree.specs.Names.{same_name};
@@ -16,7 +16,7 @@ fn names_host<A: Allocator>(hosts: &[Host<A>], host: &str) -> bool
 }
 
 impl<A: Allocator> Group<A> {
-    /// Whether a row at or below this group is of the host.
+    /// Returns whether a row at or below this group names the host.
     fn lists(&self, host: &str) -> bool
         ensures { result ≡ list_any (members.is_of host.now) (subtrees.rows_of self.now) }
     {
@@ -31,7 +31,7 @@ impl<A: Allocator> Group<A> {
         false
     }
 
-    /// Whether a group of this name, at or below this one, holds the host.
+    /// Returns whether a group with this name, at or below this one, contains the host.
     pub(crate) fn holds(&self, group: &str, host: &str) -> bool
         ensures { result ≡ members.holds (subtrees.inventory_of self.now) group.now host.now }
     {

@@ -1,6 +1,6 @@
-//! What a variable may be.
+//! The values of a variable.
 
-/// A text, a whole number or a truth value, lent.
+/// A borrowed string, integer or boolean.
 #[derive(Clone, Copy, Debug, PartialEq, Eq)]
 pub enum Scalar<'a> {
     Text(&'a str),

@@ -11,14 +11,15 @@ use crate::group::Group;
 use std::alloc::{AllocError, Allocator};
 use std::marker::Model;
 
-/// The outermost group has depth 1.
+/// The deepest group allowed; the outermost group has depth 1.
 pub const DEPTH_BOUND: usize = 32;
 
 pub const GROUPS_BOUND: usize = 1024;
 
 pub const ROWS_BOUND: usize = 16384;
 
-/// Groups of distinct names, at most `DEPTH_BOUND` deep, with at most `GROUPS_BOUND` groups and `ROWS_BOUND` host rows.
+/// Groups with distinct names, at most `DEPTH_BOUND` deep, with at most `GROUPS_BOUND` groups and `ROWS_BOUND` host
+/// rows.
 #[derive(Drop)]
 pub struct Tree<A: Allocator> {
     root: Group<A>,
@@ -37,8 +38,8 @@ impl<A: Allocator> Model for Tree<A> {
 }
 
 impl<A: Allocator> Tree<A> {
-    /// Takes no memory. The first rule that is broken refuses it, in the order of `TreeFault`, and hands the group back.
-    /// It compares each name with those before it, so its time grows with the square of the number of groups.
+    /// Creates a tree without allocating. If a rule is broken, it returns the first one, in the order of `TreeFault`,
+    /// and the group. It compares each name with those before it, so its time is quadratic in the number of groups.
     pub fn new(root: Group<A>) -> Result<Tree<A>, (TreeFault, Group<A>)>
         ensures ok { IfOk result (λ tree. (tree ≡ inventory_of root) × IsWithinBounds (inventory_of root)) }
         ensures err { IfErr result (λ (fault, back). (back ≡ root) × IsRefusal fault (inventory_of root)) }
@@ -55,7 +56,7 @@ impl<A: Allocator> Tree<A> {
         Ok(Tree { root })
     }
 
-    /// A tree of a group that is known to break no rule. It compares no names.
+    /// Creates a tree of a group that is known to break no rule. It compares no names.
     pub fn within_bounds(root: Group<A>) -> Tree<A>
         requires distinct { IsTrue (are_distinct (group_names (places_of root))) }
         requires depth { IsTrue (are_within_depth depth_bound (places_of root)) }
@@ -63,12 +64,12 @@ impl<A: Allocator> Tree<A> {
         requires rows { length (rows_of root) ≤ rows_bound }
         ensures { result ≡ inventory_of root }
     {
-        // Asked for what it says of the walk.
+        // Called for the preorder property in its contract.
         let _groups = root.groups();
         Tree { root }
     }
 
-    /// The outermost group, for a walk over them all.
+    /// Returns the outermost group, for a traversal of all groups.
     pub fn root(&self) -> &Group<A>
         ensures root { inventory_of result.now ≡ self.now }
         ensures within { IsWithinBounds self.now }
@@ -76,14 +77,15 @@ impl<A: Allocator> Tree<A> {
         &self.root
     }
 
-    /// How many groups there are.
+    /// Returns the number of groups.
     pub fn groups(&self) -> usize
         ensures { result ≡ length self.now.places }
     {
         self.root.groups()
     }
 
-    /// The group at this place in preorder, counted from 0, with its depth; what is lent holds its hosts and all below it.
+    /// Returns the group with this preorder number, from 0, and its depth. The borrowed group has its hosts and
+    /// everything below it.
     pub fn row(&self, index: usize) -> Option<(&Group<A>, usize)>
         ensures { MatchOption result (length self.now.places ≤ index)
             (λ (group, depth). IsGroupAt self.now index group.now depth) }
@@ -91,14 +93,14 @@ impl<A: Allocator> Tree<A> {
         self.root.nth(index)
     }
 
-    /// Whether the group of this name holds the host of that name.
+    /// Returns whether the group with the first name contains the host with the second.
     pub fn holds(&self, group: &str, host: &str) -> bool
         ensures { result ≡ members.holds self.now group.now host.now }
     {
         self.root.holds(group, host)
     }
 
-    /// The same tree, in another allocator.
+    /// Copies the tree to another allocator.
     pub fn copy_to<B: Allocator + Clone>(&self, alloc: B) -> Result<Tree<B>, AllocError>
         ensures { IfOk result (λ copy. copy ≡ self.now) }
     {

@@ -1,4 +1,4 @@
-//! A variable of a group or a host, as it is kept.
+//! A variable of a group or a host, as stored.
 ghost use Rattle.std.specs.Prelude.{◌≡◌, IfOk, map};
 ghost use Rattle.group_tree.specs.Scalars.{lent_scalar, kept_scalar, lent_variable};
 ghost use Rattle.std.specs.Option.{option_map};
@@ -72,7 +72,7 @@ impl<A: Allocator + Clone> Variable<A> {
     }
 }
 
-/// The variables of a list, kept in their order; of two under one name the later counts.
+/// Stores the variables of a list in their order. If two have the same name, the later one counts.
 pub(crate) fn keep_all<A: Allocator + Clone>(
     alloc: A,
     variables: &[(&str, Scalar<'_>)],
@@ -86,7 +86,7 @@ pub(crate) fn keep_all<A: Allocator + Clone>(
     Ok(kept)
 }
 
-/// The value under a name, where there is one.
+/// Returns the value under a name, if there is one.
 pub(crate) fn look_up<'a, A: Allocator>(
     variables: &'a [Variable<A>],
     name: &str,
@@ -102,7 +102,7 @@ pub(crate) fn look_up<'a, A: Allocator>(
     found
 }
 
-/// The same variables in another allocator.
+/// Copies the variables to another allocator.
 pub(crate) fn copy_variables<A: Allocator, B: Allocator + Clone>(
     alloc: B,
     variables: &[Variable<A>],

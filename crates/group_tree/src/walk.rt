@@ -1,4 +1,4 @@
-//! Walks over a group and all below it, in preorder.
+//! Preorder traversals of a group and all below it.
 ghost use Rattle.std.specs.Prelude.{◌≡◌, ◌≤◌, ◌+◌, ◌<◌, [], IsTrue, IfSome, MatchOption, length, take, get_or};
 ghost use Rattle.group_tree.specs.Names.{is_among, are_distinct};
 ghost use Rattle.group_tree.specs.Subtrees.{places_of, inventory_of};
@@ -9,7 +9,7 @@ use crate::group::Group;
 use std::alloc::Allocator;
 
 impl<A: Allocator> Group<A> {
-    /// The group at this place, counted from 0 at this one, with its depth, counted from 1 here.
+    /// Returns the group with this preorder number, from 0 for this group, and its depth, from 1 for this group.
     pub(crate) fn nth(&self, index: usize) -> Option<(&Group<A>, usize)>
         ensures at { MatchOption result (length (places_of self.now) ≤ index)
             (λ (group, depth). IsGroupAt (inventory_of self.now) index group.now depth) }
@@ -33,7 +33,7 @@ impl<A: Allocator> Group<A> {
         None
     }
 
-    /// Whether one of the first groups, as many as `count`, has the name.
+    /// Returns whether one of the first `count` groups has this name.
     fn names_within(&self, name: &str, count: usize) -> bool
         ensures { result ≡ is_among name.now (take count (group_names (places_of self.now))) }
     {
@@ -53,7 +53,7 @@ impl<A: Allocator> Group<A> {
         false
     }
 
-    /// Whether the name of the group at this place stands before it.
+    /// Returns whether an earlier group has the name of the group at this index.
     fn is_repeat(&self, index: usize) -> bool
         requires { index < length (places_of self.now) }
         ensures { result ≡ is_among (get_or (group_names (places_of self.now)) index [])
@@ -65,7 +65,7 @@ impl<A: Allocator> Group<A> {
         }
     }
 
-    /// The number, counted from 1, of the first group whose name stood before.
+    /// Returns the number, counted from 1, of the first group whose name occurs before.
     pub(crate) fn first_repeat(&self) -> Option<usize>
         ensures { MatchOption result (IsTrue (are_distinct (group_names (places_of self.now))))
             (IsFirstRepeat (group_names (places_of self.now))) }
@@ -78,7 +78,7 @@ impl<A: Allocator> Group<A> {
         None
     }
 
-    /// Whether no group is deeper than this.
+    /// Returns whether no group is deeper than `depth`.
     pub(crate) fn is_within_depth(&self, depth: usize) -> bool
         ensures { result ≡ are_within_depth depth (places_of self.now) }
     {

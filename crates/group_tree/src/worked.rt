@@ -1,4 +1,4 @@
-//! The definitions, read against small inventories: each clause computes.
+//! The definitions, checked on small inventories: each clause computes.
 ghost use Rattle.std.specs.Prelude.{◌≡◌, IsTrue, IsFalse, Some, None, [], ◌∷◌, map, length, codes, pos};
 ghost use Rattle.group_tree.specs.Places.{path_of, row_path, depth_of, is_preorder, Place, Row};
 ghost use Rattle.group_tree.specs.Variables.{value_of, Int};
@@ -21,7 +21,7 @@ fn two_racks_are_four_places()
     ensures preorder { IsTrue (is_preorder (places_of two_racks)) }
 {}
 
-/// A region holds the hosts of its racks; a rack holds its own alone.
+/// A region contains the hosts of its racks; a rack contains only its own.
 fn a_region_holds_what_its_racks_hold()
     ensures region { IsTrue (holds (inventory_of two_racks) (codes "eu") (codes "d")) }
     ensures rack { IsTrue (holds (inventory_of two_racks) (codes "r2") (codes "d")) }
@@ -37,13 +37,13 @@ fn an_empty_group_is_a_place()
     ensures rows { map row_path (rows_of empty_web) ≡ (all ∷ codes "rack" ∷ []) ∷ [] }
 {}
 
-/// Of two variables under one name the later counts.
+/// If two variables have the same name, the later one counts.
 fn the_later_variable_counts()
     ensures later { value_of (codes "tier") tier_twice ≡ Some (Int (pos 2)) }
     ensures unknown { value_of (codes "Tier") tier_twice ≡ None }
 {}
 
-/// A count allows itself, a percentage so many of each hundred members, rounded down.
+/// A count allows that many hosts, a percentage that many of each hundred members, rounded down.
 fn a_percentage_is_rounded_down()
     ensures count { allowed (Count 3) 2 ≡ 3 }
     ensures exact { allowed (Percent 58) 50 ≡ 29 }

@@ -1,4 +1,4 @@
--- What a line of help is.
+-- The form of a line of help.
 use Rattle.std.specs.Prelude.{◌≤◌, ℕ, Bool, IsTrue, ◌&&◌, nat_le, if◌then◌else◌, List, length, Result, IfOk, String, string_bytes}
 use Rattle.std.specs.List.{list_all}
 use Rattle.std.specs.declared.alloc.Global.{Global}
@@ -6,7 +6,7 @@ use Rattle.std.specs.declared.alloc.Global.{Global}
 abbrev pub is_printable : ℕ → Bool
 is_printable byte = nat_le 32 byte && nat_le byte 126
 
--- a byte that is not printable ASCII is a question mark
+-- a byte that is not printable ASCII becomes a question mark
 abbrev pub printable : ℕ → ℕ
 printable byte = if is_printable byte then byte else 63
 

@@ -1,7 +1,7 @@
 //! What to write instead of a key that Ansible has and a playbook of `rollout` does not.
 use crate::rows::{Row, find};
 
-/// `NAME` stands for the value, where it is one word.
+/// `NAME` is a placeholder for the value, if it is one word.
 const KEYS: &[Row] = &[
     (
         "become become_method become_flags",
@@ -132,7 +132,7 @@ debug pause assert fail ping docker_container k8s hostname iptables known_hosts 
 const MODULE: &str =
     "write a command: {\"argv\": [\"ssh\", \"--\", \"{{ inventory_hostname }}\", \"df -h /\"]}";
 
-/// The hint on a key, if Ansible has it. A key with a dot is the long name of a module.
+/// Returns the hint for a key, if Ansible has it. A key with a dot is the long name of a module.
 pub(crate) fn ansible_hint(key: &str) -> Option<&'static str> {
     match key.rsplit_once('.') {
         Some((_collection, short)) => Some(find(KEYS, short).unwrap_or(MODULE)),

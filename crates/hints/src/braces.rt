@@ -1,4 +1,4 @@
-//! Hints on braces in the words of a step.
+//! Hints on braces in the arguments of a step.
 ghost use Rattle.std.specs.Prelude.{◌≤◌, length};
 
 use crate::conditions::show_at;
@@ -10,7 +10,7 @@ use text_syntax::{Part, check_word, elements_of, first_word_part};
 const RULE: &str =
     "only {{ name }} and {{ name.field }} are allowed; use a script for filters, {% and {#";
 
-/// The braces that start no placeholder, in their word.
+/// Shows the braces that start no placeholder, in their argument.
 pub(crate) fn braces_hint(
     alloc: Global,
     top: Option<&Value>,
@@ -30,7 +30,7 @@ pub(crate) fn braces_hint(
     }
 }
 
-/// The first word of a step's command with such braces, or its string.
+/// Returns the first argument of a step's command with such braces, or its string.
 fn word_with_braces(step: &Value) -> Option<&str> {
     let command = step.get("command").or(step.get("ansible.builtin.command"))?;
     match command.get("argv") {

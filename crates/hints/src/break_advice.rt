@@ -1,4 +1,4 @@
-//! Why a text is not JSON, by what is before the place at which it breaks, and from it on.
+//! Why a text is not valid JSON, judged by the text before and after the error.
 use crate::rows::{Row, find_start};
 
 const STARTS: &[Row] = &[
@@ -11,7 +11,7 @@ const STARTS: &[Row] = &[
     ("<<<<<<< ======= >>>>>>>", ": a merge left its marks"),
 ];
 
-/// The usual reason, or nothing.
+/// Returns the usual reason, or the empty string.
 pub(crate) fn reason(front: &[u8], rest: &[u8]) -> &'static str {
     let before = front.trim_ascii_end();
     if rest.trim_ascii_start().is_empty() {

@@ -44,7 +44,7 @@ pub(crate) const TESTS: &str = "tests are defined, failed, changed, skipped and 
 pub(crate) const JOINT: &str =
     "write and or or between two conditions, == or != between two values";
 
-/// What is before the place, what starts there, and the hint.
+/// The text before the error, the text at it, and the hint.
 pub(crate) const PLACES: &[(&str, &str, &str)] = &[
     ("", "&&", "write and"),
     ("", "||", "write or"),

@@ -12,7 +12,7 @@ use serde_json::Value;
 use std::alloc::{AllocError, Global};
 use text_syntax::listed;
 
-// How much of a condition is shown on each side of a place, at most and in bytes.
+// The number of bytes of a condition that are shown on each side of the error, at most.
 const ASIDE: usize = 30;
 
 const RULE: &str = "conditions have and, or, not, brackets, ==, !=, is, is not and in group_names";
@@ -21,7 +21,7 @@ const NESTED: &str = "at most 32 brackets in each other; a list under the key is
 
 const LONG: &str = "a condition has at most 4096 bytes; a list under the key is joined by and";
 
-/// Where the condition breaks, and what to write there.
+/// Shows where the condition breaks, and what to write there.
 pub(crate) fn condition_hint(
     alloc: Global,
     top: Option<&Value>,
@@ -46,7 +46,7 @@ pub(crate) fn condition_hint(
     }
 }
 
-/// The first condition under the key that has this fault, which does not say which of a list it means.
+/// Returns the first condition under the key with this error, which does not specify which one of a list it is.
 fn broken_text(alloc: Global, step: &Value, key: ConditionKey, fault: CondFault) -> Option<&str> {
     listed(step.get(key.name())?)
         .iter()
@@ -75,7 +75,7 @@ fn hint_at(alloc: Global, text: &[u8], at: usize) -> Result<String, AllocError> 
     }
 }
 
-/// The text around a place, as far as the line has room for it, and a hint.
+/// Returns the text around the error, as far as it fits on the line, and a hint.
 pub(crate) fn show_at(
     alloc: Global,
     front: &[u8],
@@ -88,7 +88,7 @@ pub(crate) fn show_at(
     format!(in alloc; "{before}<here>{after}: {hint}")
 }
 
-/// The word of conditions that is nearest to what starts at the place, or to a single word before it.
+/// Returns the closest keyword to the text at the error, or to a single word before it.
 fn meant(alloc: Global, front: &[u8], rest: &[u8]) -> Result<Option<&'static str>, AllocError> {
     let near = nearest_to(alloc, rest, words_after(front))?;
     if near.is_some() {
@@ -125,7 +125,7 @@ fn is_tested(front: &[u8]) -> bool {
     front.ends_with(b" is ") || front.ends_with(b" is not ")
 }
 
-/// The nearest of these to the first word, if that is not one of them.
+/// Returns the closest of these to the first word, unless the word is one of them.
 fn nearest_to(
     alloc: Global,
     text: &[u8],
@@ -140,7 +140,7 @@ fn nearest_to(
     Ok(near.filter(|near| *near != word.as_str()))
 }
 
-/// What to write, by what is before the place and from it on.
+/// Returns what to write, judged by the text before and after the error.
 fn hint_between(front: &[u8], rest: &[u8]) -> &'static str {
     if rest.is_empty() {
         return "something is missing at the end";
@@ -168,7 +168,7 @@ fn other_hint(rest: &[u8]) -> &'static str {
     }
 }
 
-/// What is wrong with a string, or a character, that starts here.
+/// Returns what is wrong with a string, or a character, that starts here.
 fn string_hint(rest: &[u8]) -> Option<&'static str> {
     let (quote, behind) = rest.split_first()?;
     if *quote >= 128 {

@@ -2,8 +2,8 @@
 use serde_json::Value;
 use std::alloc::{AllocError, Global};
 
-/// A text and the value that it is, if it is JSON; otherwise the line and the column, from 1, at which it breaks. Where it
-/// ends before its value does, they are those after its last byte that is not whitespace.
+/// A text and its value if it is valid JSON, otherwise the line and the column of the error, from 1. If the text ends
+/// before its value does, they are those after its last byte that is not whitespace.
 #[derive(Drop)]
 pub struct Document<'a> {
     pub text: &'a [u8],
@@ -40,13 +40,13 @@ impl<'a> Document<'a> {
         }
     }
 
-    /// The value, if the text is JSON.
+    /// Returns the value, if the text is valid JSON.
     pub fn top(&self) -> Option<&Value> {
         self.value.as_ref()
     }
 }
 
-/// The line and the column, from 1, after the last byte that is not whitespace.
+/// Returns the line and the column, from 1, after the last byte that is not whitespace.
 fn end_of(text: &[u8]) -> (usize, usize) {
     let text = text.trim_ascii_end();
     let line = text.iter().filter(|byte| **byte == b'\n').count();
@@ -54,7 +54,8 @@ fn end_of(text: &[u8]) -> (usize, usize) {
     (line.saturating_add(1), column.saturating_add(1))
 }
 
-/// A closing bracket of the wrong kind is reported after the text: its place is that of the last byte.
+/// Returns the position of the last byte if the error is reported after the text, as for a closing bracket of the
+/// wrong kind.
 fn within(text: &[u8], place: (usize, usize)) -> (usize, usize) {
     let end = end_of(text);
     if end.0 < place.0 || (end.0 == place.0 && end.1 <= place.1) {

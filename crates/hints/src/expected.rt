@@ -3,10 +3,10 @@ use crate::line::{LONGEST_LINE, shown};
 use serde_json::Value;
 use std::alloc::{AllocError, Global};
 
-// How much of a string is shown, in bytes.
+// The number of bytes shown of a string.
 const SHOWN: usize = 40;
 
-/// The value at a path of the document; one below a key that holds `/` or `~` may not be found.
+/// Returns the value at a path of the document. A value below a key that contains `/` or `~` might not be found.
 pub(crate) fn find_at<'a>(
     alloc: Global,
     top: Option<&'a Value>,
@@ -22,7 +22,7 @@ pub(crate) fn find_at<'a>(
     Ok(top.pointer(pointer.as_str()))
 }
 
-/// The value that was found, as far as the line has room for it, and what was expected.
+/// Returns the value found, as far as it fits on the line, and what was expected.
 pub(crate) fn expected(
     alloc: Global,
     found: Option<&Value>,
@@ -41,7 +41,7 @@ pub(crate) fn expected(
     })
 }
 
-/// The same of the value at a path.
+/// Likewise for the value at a path.
 pub(crate) fn expected_at(
     alloc: Global,
     top: Option<&Value>,

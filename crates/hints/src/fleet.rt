@@ -1,4 +1,4 @@
-//! The hint on an inventory that is not a fleet.
+//! The hint on an inventory that is not a valid fleet.
 ghost use Rattle.hints.specs.Lines.{IsHelpLine};
 
 use crate::document::Document;
@@ -9,7 +9,7 @@ use serde_json::Value;
 use std::alloc::{AllocError, Global};
 use std::collections::BTreeMap;
 
-// How many hosts are named, and how much is shown of a name or of theirs, in bytes.
+// The number of hosts that are named, and the number of bytes shown of a name or of their names.
 const NAMED: usize = 3;
 
 const SHOWN: usize = 20;
@@ -22,8 +22,8 @@ const TOO_MANY: &str =
 const CROSSING: &str =
     "share hosts: take them out of one, nest one group in the other, or limit only one kind of group";
 
-/// What to do about limits that cross, too many hosts down or too many hosts; the document is that of the inventory's
-/// text. Fails only if an allocation fails.
+/// Returns what to do if limits cross, or if too many hosts are down or listed. `document` is the inventory's text.
+/// Fails only if an allocation fails.
 pub fn fleet_help(
     alloc: Global,
     fault: &FleetFault,
@@ -59,7 +59,8 @@ fn hint_on(
     }
 }
 
-/// The names of the first hosts of the group that are down, each once. Of several marks of a host the last one counts.
+/// Returns the names of the first hosts of the group that are down, each once. If a host is marked several times, the
+/// last mark counts.
 fn down_names(alloc: Global, top: Option<&Value>, group: &str) -> Result<String, AllocError> {
     let mut names: Vec<&str> = Vec::new(alloc);
     if let Some(top) = top {

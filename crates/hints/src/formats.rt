@@ -1,4 +1,4 @@
-//! Which other format a text looks like that is not JSON.
+//! The format that a text looks like if it is not JSON.
 
 /// A format that people write instead of JSON.
 #[derive(Clone, Copy)]
@@ -7,7 +7,7 @@ pub(crate) enum Format {
     Yaml,
 }
 
-/// The format of a text without whitespace in front, if it looks like one; a comment of JavaScript starts neither.
+/// Returns the format that a text without leading whitespace looks like. A JavaScript comment starts neither.
 pub(crate) fn format_of(text: &[u8]) -> Option<Format> {
     let text = std::str::from_utf8(text).ok()?;
     if text.starts_with("//") || text.starts_with("/*") {
@@ -21,7 +21,8 @@ pub(crate) fn format_of(text: &[u8]) -> Option<Format> {
     }
 }
 
-/// Whether the first line that is no comment is one of an inventory in INI: `[web]`, or a host with or without variables.
+/// Returns whether the first line that is not a comment is one of an INI inventory: `[web]`, or a host with or
+/// without variables.
 fn is_ini(text: &str) -> bool {
     match text.lines().find(|line| !is_comment(*line)) {
         Some(line) => is_section(line.trim()) || is_host_line(line.trim()),

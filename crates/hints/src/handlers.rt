@@ -8,7 +8,8 @@ const RULE: &str = "a task can notify only handlers of its own play, by name";
 
 const TWICE: &str = "keep one, or give each its own name";
 
-/// The nearest handler's name, and the first task that notifies a handler of this name in a play without one.
+/// Suggests the closest handler name, and shows the first task that notifies a handler of this name in a play without
+/// one.
 pub(crate) fn no_handler(
     alloc: Global,
     top: Option<&Value>,
@@ -36,7 +37,7 @@ pub(crate) fn no_handler(
     nearest_hint(alloc, name, names.as_slice(), rule.as_str())
 }
 
-/// The first two handlers of this name in one play.
+/// Shows the first two handlers with this name in one play.
 pub(crate) fn twice_handler(
     alloc: Global,
     top: Option<&Value>,
@@ -71,7 +72,7 @@ fn plays_in(top: Option<&Value>) -> &[Value] {
     }
 }
 
-/// The number of the play, that of the task, and the play.
+/// Returns the number of the play, the number of the task, and the play.
 fn find_notifier<'a>(plays: &'a [Value], name: &str) -> Option<(usize, usize, &'a Value)> {
     plays.iter().enumerate().find_map(|(place, play)| {
         let task = first_notifier(play, name)?;
@@ -95,7 +96,7 @@ fn is_named(handler: &Value, name: &str) -> bool {
         .is_some_and(|value| is_string(value, name))
 }
 
-/// Whether this string is under the key, alone or in a list.
+/// Returns whether this string is under the key, on its own or in a list.
 fn has_string(step: &Value, key: &str, text: &str) -> bool {
     match step.get(key) {
         Some(Value::Array(list)) => list.iter().any(|value| is_string(value, text)),

@@ -1,4 +1,4 @@
-//! The hint on a text that is not an inventory.
+//! The hint on a text that is not a valid inventory.
 ghost use Rattle.hints.specs.Lines.{IsHelpLine};
 
 use crate::document::Document;
@@ -28,8 +28,8 @@ const MANY: &str =
 
 const TWICE: &str = "name each apart, or keep one with the hosts of both";
 
-/// What was found where the inventory breaks a rule, what was expected, and what to write; the document is that of its
-/// text. Fails only if an allocation fails.
+/// Returns what was found where the inventory breaks a rule, what was expected, and what to write. `document` is the
+/// inventory's text. Fails only if an allocation fails.
 pub fn read_help(
     alloc: Global,
     fault: &ReadFault,
@@ -61,7 +61,7 @@ fn hint_on(
     }
 }
 
-/// The place of the group of this number, from 1, and that of the first one of its name.
+/// Shows the path of the group with this number, from 1, and that of the first one with its name.
 fn twice(alloc: Global, top: Option<&Value>, group: usize) -> Result<String, AllocError> {
     let Some(top) = top else {
         return String::from_str(alloc, TWICE);

@@ -1,4 +1,4 @@
-//! Hints on a key that the format does not name.
+//! Hints on a key that the format does not define.
 use crate::ansible_keys::ansible_hint;
 use crate::expected::find_at;
 use crate::line::shown;
@@ -6,7 +6,7 @@ use crate::names::{is_name_byte, nearest_hint};
 use serde_json::Value;
 use std::alloc::{AllocError, Global};
 
-// How much of a key is shown, in bytes.
+// The number of bytes shown of a key.
 const SHOWN: usize = 40;
 
 const OF_GROUPS: &[&str] = &["hosts", "children", "vars"];
@@ -51,13 +51,13 @@ const OFF: &str = "leave it out; false is the default";
 
 const LOCAL: &str = "leave it out; commands run on the local machine anyway";
 
-/// What to write instead of the key of a group at this path.
+/// Returns what to write instead of the key of a group at this path.
 pub(crate) fn group_key(alloc: Global, at: &str) -> Result<String, AllocError> {
     let key = at.rsplit('/').next().unwrap_or(at);
     nearest_hint(alloc, key, OF_GROUPS, GROUP_RULE)
 }
 
-/// What to write instead of the key of a play or a step at this path.
+/// Returns what to write instead of the key of a play or a step at this path.
 pub(crate) fn play_key(alloc: Global, top: Option<&Value>, at: &str) -> Result<String, AllocError> {
     let value = find_at(alloc, top, at)?;
     let (_play, behind) = at.split_once('/').unwrap_or(("", at));
@@ -78,7 +78,7 @@ pub(crate) fn play_key(alloc: Global, top: Option<&Value>, at: &str) -> Result<S
     }
 }
 
-/// The old name of a play's `remote_user`; of a step it is a module.
+/// Returns the hint for `user`, the old name of a play's `remote_user`; in a step it is a module.
 fn user_hint(key: &str) -> Option<&'static str> {
     if key == "user" {
         ansible_hint("remote_user")
@@ -87,7 +87,7 @@ fn user_hint(key: &str) -> Option<&'static str> {
     }
 }
 
-/// The key of a step, by its path below the play: that of a task or a handler has its number in front.
+/// Returns the key of a step, by its path below the play, in which the index of the task or handler comes first.
 fn step_key(behind: &str) -> Option<&str> {
     let (steps, below) = behind.split_once('/')?;
     if steps != "tasks" && steps != "handlers" {
@@ -105,7 +105,7 @@ fn other_place(key: &str, keys: &[&str], hint: &'static str) -> Option<&'static 
     }
 }
 
-/// The hint on a key of another place, or on one of Ansible's, or else the nearest of these keys.
+/// Returns the hint for a key of another place or of Ansible, otherwise the closest of these keys.
 fn key_hint(
     alloc: Global,
     key: &str,
@@ -128,7 +128,7 @@ fn key_hint(
     }
 }
 
-/// The hint with this word in place of `NAME`, if it is short and plain.
+/// Returns the hint with `NAME` replaced by this word, if the word is short and plain.
 fn fill(alloc: Global, key: &str, hint: &str, word: &str) -> Result<String, AllocError> {
     if key == "delegate_to" && (word == "localhost" || word == "127.0.0.1") {
         return String::from_str(alloc, LOCAL);

@@ -8,7 +8,7 @@ use std::alloc::{AllocError, Global};
 /// The longest line, in bytes, after its indentation.
 pub const LONGEST_LINE: usize = 140;
 
-/// The hint of what fails only because memory was refused.
+/// The hint on an error that is only a failed allocation.
 pub(crate) const MEMORY: &str = "out of memory";
 
 /// Returns the string as a line: its first 140 bytes, with `?` for each that is not printable ASCII. Fails only if an
@@ -19,7 +19,7 @@ pub fn tell(alloc: Global, text: &str) -> Result<String, AllocError>
     print(alloc, first(text.as_bytes(), LONGEST_LINE))
 }
 
-/// Returns a string of the user's in at most this many bytes and two dots, each byte printable ASCII.
+/// Returns at most this many bytes of the user's string, then two dots if there are more, each byte printable ASCII.
 pub(crate) fn shown(alloc: Global, text: &[u8], most: usize) -> Result<String, AllocError> {
     let mut line = print(alloc, first(text, most))?;
     if text.len() > most {
@@ -28,14 +28,14 @@ pub(crate) fn shown(alloc: Global, text: &[u8], most: usize) -> Result<String, A
     Ok(line)
 }
 
-/// The first bytes, at most this many.
+/// Returns the first bytes, at most this many.
 pub(crate) fn first(text: &[u8], most: usize) -> &[u8]
     ensures { result.now ≡ take most text.now }
 {
     text.split_at(text.len().min(most)).0
 }
 
-/// The last bytes, at most this many.
+/// Returns the last bytes, at most this many.
 pub(crate) fn last(text: &[u8], most: usize) -> &[u8] {
     text.split_at(text.len().saturating_sub(most)).1
 }

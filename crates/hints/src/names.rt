@@ -3,7 +3,7 @@ use crate::line::{first, print, shown};
 use name_suggestions::nearest;
 use std::alloc::{AllocError, Global};
 
-// How much of a name is shown, in bytes.
+// The number of bytes shown of a name.
 const SHOWN: usize = 30;
 
 const RULE: &str = "1 to 255 ASCII letters, digits, '.', '-' and '_'";
@@ -19,7 +19,7 @@ const BRACES: &str =
 const LOCALHOST: &str =
     "commands run on the local machine anyway, once per host; name one listed host";
 
-/// The nearest of these names, and the rule.
+/// Returns the closest of these names, and the rule.
 pub(crate) fn nearest_hint(
     alloc: Global,
     name: &str,
@@ -35,7 +35,7 @@ pub(crate) fn nearest_hint(
     }
 }
 
-/// What breaks the alphabet of names, or that the name is empty or too long.
+/// Shows which character is not allowed in names, or that the name is empty or too long.
 pub(crate) fn bad_name(alloc: Global, name: &str) -> Result<String, AllocError> {
     let length = name.len();
     if name.is_empty() {
@@ -55,12 +55,12 @@ pub(crate) fn bad_name(alloc: Global, name: &str) -> Result<String, AllocError> 
     }
 }
 
-/// A letter or digit of ASCII, `.`, `-` or `_`.
+/// Returns whether the byte is an ASCII letter or digit, `.`, `-` or `_`.
 pub(crate) fn is_name_byte(byte: u8) -> bool {
     byte.is_ascii_alphanumeric() || matches!(byte, b'.' | b'-' | b'_')
 }
 
-/// What to write instead of a name in a pattern that no group and no host has.
+/// Returns what to write instead of a name in a pattern that is neither a group nor a host.
 pub(crate) fn unknown_name(
     alloc: Global,
     name: &str,

@@ -1,11 +1,11 @@
-//! Hints on a text that is not JSON.
+//! Hints on a text that is not valid JSON.
 use crate::break_advice::reason;
 use crate::document::Document;
 use crate::formats::{Format, format_of};
 use crate::line::{first, last, print};
 use std::alloc::{AllocError, Global};
 
-// How much of the line is shown on each side of the place, in bytes.
+// The number of bytes of the line that are shown on each side of the error.
 const ASIDE: usize = 30;
 
 const EMPTY: &str = "the file is empty";
@@ -19,7 +19,8 @@ const WIDE: &str =
 const INI: &str =
     "found INI, expected JSON; pipe ansible-inventory -i FILE --list --yaml --export into the python3 line of FROM_ANSIBLE.md";
 
-/// What to do about a text that is not JSON, with this hint on YAML: convert it, or mend it where it breaks.
+/// Returns what to do about a text that is not valid JSON: convert it, with this hint on YAML, or repair it where it
+/// breaks.
 pub(crate) fn not_json(
     alloc: Global,
     document: &Document<'_>,
@@ -48,7 +49,7 @@ fn form_hint(text: &[u8], yaml: &'static str) -> Option<&'static str> {
     }
 }
 
-/// The line around the place, and what is usually wrong there.
+/// Shows the line around the error, and what is usually wrong there.
 fn show_break(alloc: Global, document: &Document<'_>) -> Result<String, AllocError> {
     let at = place_in(document.text, document.line, document.column);
     let front = document.text.get(..at).unwrap_or(document.text);
@@ -61,7 +62,7 @@ fn show_break(alloc: Global, document: &Document<'_>) -> Result<String, AllocErr
     format!(in alloc; "line {line}, column {column}: {before}<here>{after}{reason}")
 }
 
-/// The place of a line and a column, each from 1, in the text.
+/// Returns the byte offset of a line and a column, each from 1, in the text.
 fn place_in(text: &[u8], line: usize, column: usize) -> usize {
     let mut ends = text
         .iter()

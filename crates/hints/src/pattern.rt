@@ -1,4 +1,4 @@
-//! The hint on a pattern of hosts that matches nothing.
+//! The hint on a host pattern that matches nothing.
 ghost use Rattle.hints.specs.Lines.{IsHelpLine};
 
 use crate::document::Document;
@@ -9,11 +9,12 @@ use serde_json::Value;
 use std::alloc::{AllocError, Global};
 use text_syntax::listed;
 
-// How much of a pattern is shown, in bytes.
+// The number of bytes shown of a pattern.
 const SHOWN: usize = 25;
 
-/// The first play that has the name, from 0, its pattern, and the nearest of the names that exist, or that a pattern has
-/// no `&`, `!`, `*` and so on; the document is that of the playbook's text. Fails only if an allocation fails.
+/// Returns the first play with this name in its pattern, from 0, the pattern, and a hint. The hint is the closest
+/// existing name, or that patterns have no `&`, `!`, `*` and the like. `document` is the playbook's text. Fails only
+/// if an allocation fails.
 pub fn pattern_help(
     alloc: Global,
     fault: &PatternFault,

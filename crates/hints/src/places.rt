@@ -7,16 +7,16 @@ use serde_json::{Map, Value};
 use std::alloc::{AllocError, Global};
 use text_syntax::entries_of;
 
-/// A group where it is written.
+/// A group as written.
 #[derive(Clone, Copy)]
 pub(crate) struct Place<'a> {
     pub(crate) name: &'a str,
     pub(crate) body: Option<&'a Value>,
-    /// The number of the group in which it is written; `all`, and a group beside it at the top, is in none.
+    /// The number of the group that contains it. `all` and the groups next to it in the top value have none.
     pub(crate) above: Option<usize>,
 }
 
-/// All groups: `all` first, and then its children and the groups beside it, by name.
+/// Returns all groups: `all` first, then its children and the groups next to it, by name.
 pub(crate) fn list_places(alloc: Global, top: &Value) -> Result<Vec<Place<'_>>, AllocError> {
     let body = top.get("all");
     let mut places = Vec::new(alloc);
@@ -47,7 +47,7 @@ fn children_of_all<'a>(
     Ok(children)
 }
 
-/// Adds the groups of an object; `all` beside others at the top is no child.
+/// Adds the groups of an object; `all` next to others in the top value is not a child.
 fn add_children<'a>(
     children: &mut Vec<Place<'a>>,
     object: Option<&'a Map<String, Value>>,
@@ -85,7 +85,7 @@ fn add_below<'a>(places: &mut Vec<Place<'a>>, body: &'a Value) -> Result<(), All
     Ok(())
 }
 
-/// The entries of the object under a key.
+/// Returns the entries of the object under a key.
 pub(crate) fn entries_at<'a>(value: &'a Value, key: &str) -> Option<&'a Map<String, Value>>
     ensures shallower { IfSome result (λ object. members_depth (members_view object.now.entries) + 2 ≤ depth (view value.now)) }
 {
@@ -95,7 +95,7 @@ pub(crate) fn entries_at<'a>(value: &'a Value, key: &str) -> Option<&'a Map<Stri
     }
 }
 
-/// The names on the way to the group of this number, joined.
+/// Returns the names from the top to the group with this number, joined.
 pub(crate) fn way_to(
     alloc: Global,
     places: &[Place<'_>],
@@ -103,7 +103,7 @@ pub(crate) fn way_to(
 ) -> Result<String, AllocError> {
     let mut names = Vec::new(alloc);
     let mut next = Some(number);
-    // A group has fewer groups above it than there are.
+    // A group has fewer groups above it than there are groups.
     for _ in places {
         let Some(place) = next.and_then(|number| places.get(number)) else {
             break;
@@ -115,7 +115,7 @@ pub(crate) fn way_to(
     names.as_slice().join(alloc, "/children/")
 }
 
-/// Whether the group of this number is the named one or below it; each is below `all`.
+/// Returns whether the group with this number is the named one or below it; each is below `all`.
 pub(crate) fn is_within(places: &[Place<'_>], number: usize, group: &str) -> bool {
     let mut next = Some(number);
     for _ in places {

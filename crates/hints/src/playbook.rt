@@ -1,4 +1,4 @@
-//! The hint on a text that is not a playbook.
+//! The hint on a text that is not a valid playbook.
 ghost use Rattle.hints.specs.Lines.{IsHelpLine};
 
 use crate::braces::braces_hint;
@@ -27,8 +27,8 @@ const PLAYS: &str =
 const STEPS: &str =
     "a play has at most 256 tasks and handlers; move the later ones into a second play, or several into one script";
 
-/// What was found where the playbook breaks a rule, what was expected, and what to write; the document is that of its
-/// text. Fails only if an allocation fails.
+/// Returns what was found where the playbook breaks a rule, what was expected, and what to write. `document` is the
+/// playbook's text. Fails only if an allocation fails.
 pub fn play_help(
     alloc: Global,
     fault: &PlayFault,

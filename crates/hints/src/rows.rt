@@ -3,7 +3,7 @@
 /// A key, or several separated by spaces, and the hint.
 pub(crate) type Row = (&'static str, &'static str);
 
-/// The hint of the first row that has this key.
+/// Returns the hint of the first row with this key.
 pub(crate) fn find(rows: &[Row], key: &str) -> Option<&'static str> {
     let row = rows
         .iter()
@@ -11,7 +11,7 @@ pub(crate) fn find(rows: &[Row], key: &str) -> Option<&'static str> {
     Some(row.1)
 }
 
-/// The hint of the first row whose key the bytes start with.
+/// Returns the hint of the first row with a key that the bytes start with.
 pub(crate) fn find_start(rows: &[Row], bytes: &[u8]) -> Option<&'static str> {
     let row = rows.iter().find(|row| row
         .0

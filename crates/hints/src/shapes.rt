@@ -1,4 +1,4 @@
-//! What is expected at a place of a file.
+//! What is expected at a path of a file.
 use crate::expected::{expected, find_at};
 use crate::rows::{Row, find};
 use serde_json::Value;
@@ -67,7 +67,7 @@ const PROGRAM: &str = "a program and its arguments";
 const COMMAND: &str =
     "a string, or one of {\"argv\": [\"echo\", \"it's\"]} and {\"cmd\": \"echo yes\"}";
 
-/// What is expected at a path of an inventory.
+/// Returns what is expected at a path of an inventory.
 pub(crate) fn group_shape(
     alloc: Global,
     top: Option<&Value>,
@@ -84,7 +84,7 @@ pub(crate) fn group_shape(
     expected(alloc, found, wanted)
 }
 
-/// What is expected at a path of a playbook.
+/// Returns what is expected at a path of a playbook.
 pub(crate) fn play_shape(
     alloc: Global,
     top: Option<&Value>,
@@ -113,7 +113,7 @@ fn whole(found: Option<&Value>) -> &'static str {
     }
 }
 
-/// Of an object, which of these keys it lacks.
+/// Shows which of these keys an object lacks, and what is expected.
 fn lacking(
     alloc: Global,
     found: Option<&Value>,

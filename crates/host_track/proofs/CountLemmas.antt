@@ -1,4 +1,4 @@
--- Counts of rows, with one row more.
+-- Counts of rows, with one more row.
 use Rattle.std.proofs.Common.{◌≡◌, ℕ, ◌+◌, ◌<◌, ◌≤◌, Bool, true, false, cond, List, [], ◌∷◌, ◌++◌, length, ap, ◌∙◌, arith}
 use Rattle.std.specs.List.{count_by}
 use Rattle.std.proofs.lemmas.List.Sums.{count_by-le-length, sum_by-append}
@@ -17,7 +17,7 @@ counted {X} p rows row few =
         let below : count_by p rows ≤ length rows = count_by-le-length p rows in
         omega arith
 
--- a count that took one row more, where the row passes
+-- a count with one more row, if the row passes
 pub counted_next : {X : Type 0} (p : X → Bool) → (rows : List X) (row : X) (passes : Bool) (old new : ℕ) → length rows < 4294967295
     → old ≡ count_by p rows → passes ≡ p row → new ≡ one_more_if passes old → new ≡ count_by p (rows ++ row ∷ [])
 counted_next p rows row passes old new few was is makes =
@@ -27,7 +27,7 @@ abbrev counts_with : ℕ → ℕ → ℕ → ℕ → ℕ → Counts
 counts_with ok changed failed skipped ignored =
     record { ok = ok; changed = changed; failed = failed; skipped = skipped; ignored = ignored }
 
--- the same in each of the five
+-- likewise for each of the five counts
 pub same_counts : (a b c d e v w x y z : ℕ) → a ≡ v → b ≡ w → c ≡ x → d ≡ y → e ≡ z → counts_with a b c d e ≡ counts_with v w x y z
 same_counts a b c d e v w x y z ok changed failed skipped ignored =
     ap (λ n. counts_with n b c d e) ok ∙ ap (λ n. counts_with v n c d e) changed ∙ ap (λ n. counts_with v w n d e) failed

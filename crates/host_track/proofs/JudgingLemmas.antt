@@ -1,4 +1,4 @@
--- What the conditions of a step make of its row.
+-- The effect of a step's conditions on its row.
 use Rattle.std.proofs.Common.{◌≡◌, ℕ, Option, List, sym, ap, ◌∙◌}
 use Rattle.std.specs.Prelude.{ℤ}
 use Rattle.group_tree.specs.Names.{Name}
@@ -15,7 +15,7 @@ abbrev flags_with : Known → Step → Option Name → Ending → Flags
 flags_with known step name ending =
     flags_of_run (environment_in (with_result name (table_row ending) known)) step (table_row ending)
 
--- a program's end that stands under the step's name
+-- a program's end, under the step's register name
 pub flags_in_trial : (trial : Trial) (step : Step) (rc : ℤ) (stdout stderr : List ℕ) → name_of trial ≡ register_of step
     → ending_of trial.outcome.now ≡ ran rc stdout stderr
     → flags_of_run (environment_of_trial trial) step (row_of_trial trial) ≡ flags_of (known_of trial.vars.now) step (ending_of trial.outcome.now)
@@ -27,7 +27,7 @@ abbrev undefined_with : Known → Step → Option Name → Ending → Option Nam
 undefined_with known step name ending =
     undefined_by (environment_in (with_result name (table_row ending) known)) step (table_row ending)
 
--- the same of the name that a condition wants
+-- likewise for the undefined name that a condition reads
 pub undefined_in_trial : (trial : Trial) (step : Step) (rc : ℤ) (stdout stderr : List ℕ) → name_of trial ≡ register_of step
     → ending_of trial.outcome.now ≡ ran rc stdout stderr
     → undefined_by (environment_of_trial trial) step (row_of_trial trial) ≡ undefined_in (known_of trial.vars.now) step (ending_of trial.outcome.now)

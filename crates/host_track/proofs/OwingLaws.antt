@@ -1,4 +1,4 @@
--- A host that owes has a row of each step.
+-- A host that owes handlers has a row for each step.
 use Rattle.std.proofs.Common.{◌≡◌, ℕ, zero, suc, ◌-◌, ◌<◌, ◌≤◌, nat_eq, Bool, true, false, ◌||◌, IsTrue, Option, Some, None, List, [], ◌∷◌, ◌++◌, length, get_or, refl, sym, ◌∙◌, subst, arith, lt-ltb, inl, inr, ◌⊎◌}
 use Rattle.std.specs.Prelude.{All, if◌then◌else◌}
 use Rattle.std.specs.List.{list_any}
@@ -14,7 +14,7 @@ use Rattle.host_track.specs.Counting.{is_failed}
 use Rattle.host_track.specs.Tracks.{Entry, Column, track, is_due, is_notified, notifies, has_failed, known_with, known_after, row_at, row_if_due, step_at}
 use Rattle.host_track.specs.Laws.{OwingHostsRunEachStep}
 
--- a row of the step stands among them
+-- the list contains a row of the step
 abbrev has_row : ℕ → List Entry → Bool
 has_row step rows = list_any (λ (entry : Entry). nat_eq entry.step step) rows
 
@@ -33,7 +33,7 @@ or_second : (a b : Bool) → b ≡ true → (a || b) ≡ true
 or_second true b is = refl
 or_second false b is = is
 
--- its rows leave what the host owes
+-- its rows do not change what the host owes
 owes_with : (known : Known) (step : Option Step) (entry : Entry) → (known_with known step entry).owes ≡ known.owes
 owes_with known None entry = refl
 owes_with known (Some step) entry = refl
@@ -43,7 +43,7 @@ owes_after play known [] = refl
 owes_after play known (entry ∷ rows) =
     owes_after play (known_with known (step_at play entry.step) entry) rows ∙ owes_with known (step_at play entry.step) entry
 
--- where all owe, one row notifies each handler
+-- if all rows owe, one row notifies each handler
 notified_by : (play : Play) (handler step : ℕ) (rows : List Entry) → AllOwe rows → has_row step rows ≡ true → is_notified play rows handler ≡ true
 notified_by play handler step [] owe has = absurd (cc)
 notified_by play handler step (row ∷ rows) owe has =
@@ -68,11 +68,11 @@ module _ (play : Play) (known : Known) (column : Column) (owes : IsTrue known.ow
   all_owe zero = All-nil (λ (entry : Entry). IsTrue entry.owes)
   all_owe (suc place) = one_more (rows_of place) place (all_owe place)
 
-  -- the step is due where no row has failed and one stands before a handler
+  -- the step is due if no row has failed and, for a handler, there is an earlier row
   due : (place : ℕ) → has_failed (rows_of place) ≡ false → (play.tasks ≤ place → has_row 0 (rows_of place) ≡ true) → is_due play (rows_of place) place ≡ true
   due place none first = rw none (elim (cases_lt place play.tasks) [ inl task ↦ or_first _ _ (lt-ltb place play.tasks task) | inr handler ↦ or_second _ _ (notified_by play (place - play.tasks) 0 (rows_of place) (all_owe place) (first handler)) ])
 
-  -- then its row comes
+  -- then it gets its row
   row_of : (place : ℕ) → place < length play.steps.items → is_due play (rows_of place) place ≡ true → has_row place (row_if_due play known (rows_of place) place (column place)) ≡ true
   row_of place within is = rw is (by_case (slice_get_cases play.steps.items place).1)
     where
@@ -95,7 +95,7 @@ module _ (play : Play) (known : Known) (column : Column) (owes : IsTrue known.ow
   lived place none =
       (or_parts (has_failed (rows_of place)) (has_failed (more place)) (sym (list_any-append (λ (entry : Entry). is_failed entry.finding.judged) (rows_of place) (more place)) ∙ none)).0
 
-  -- with a row of each step before one, and of it, comes one of each step up to it
+  -- if each earlier step has a row, and so does this one, then each step up to it has one
   one_step : (place step : ℕ) → ((other : ℕ) → other < place → has_row other (rows_of place) ≡ true) → place < length play.steps.items → has_failed (rows_of place) ≡ false → step < suc place
       → has_row step (rows_of place ++ more place) ≡ true
   one_step place step before within none inside = joined ∙ by_case (cases_lt step place)

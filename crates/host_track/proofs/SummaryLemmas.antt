@@ -1,4 +1,4 @@
--- What a summary shows, as rows come.
+-- What a summary shows as rows are added.
 use Rattle.std.proofs.Common.{◌≡◌, ℕ, suc, ◌+◌, ◌-◌, ◌<◌, ◌≤◌, nat_lt, Bool, true, false, not, ◌&&◌, inl, inr, lt-ltb, ◌||◌, cond, Option, Some}
 use Rattle.std.proofs.Common.{List, [], ◌∷◌, ◌++◌, length, refl, sym, ap, ◌∙◌, subst, arith, length-append}
 use Rattle.std.proofs.Math.Path.{fun_ext}
@@ -24,7 +24,7 @@ use Rattle.host_track.specs.Tracks.{Entry, is_due, has_failed, is_notified, noti
 use Rattle.host_track.specs.Summaries.{Shows, IsCopyFor, mark_at}
 use Rattle.host_track.specs.declared.summary.Summary.{Summary}
 
--- two hosts of which the same is known
+-- two hosts about which the same is known
 pub same_known : (a b : Known) → a.variables ≡ b.variables → ((name : Name) → a.results name ≡ b.results name) → a.owes ≡ b.owes → a ≡ b
 same_known a b variables results owes =
     ap (λ (v : HostView). let known : Known = record a { variables = v } in known) variables
@@ -64,7 +64,7 @@ length_judgements : (entries : List Entry) → length (judgements entries) ≡ l
 length_judgements [] = refl
 length_judgements (first ∷ entries) = ap suc (length_judgements entries)
 
--- the summary after the row of a step of which this was found, on a host of which that was known
+-- the summary after the row of a step with this finding, on a host about which this is known
 pub record Follows (known : Known) (step : Step) (ending : Ending) (finding : Finding) (old new : Summary) : Type 0 where
   pub registers : known_of new.vars ≡ with_result (register_of step) (registered_row ending finding) known
   pub failed : new.failed ≡ (old.failed || is_failed finding.judged)
@@ -118,7 +118,7 @@ shows_row play start entries place step ending finding old new found follows sho
     subst (λ (f : Finding). Follows (known_of old.vars) step ending f old new) found follows in
     shows_row_after play start entries place step ending old new shown at (subst (λ (known : Known). Follows known step ending (finding_of known step ending) old new) shown.known here)
 
--- a summary that says the same shows the same rows
+-- a summary with the same contents shows the same rows
 pub shows_same : (play : Play) (start : Known) (entries : List Entry) (old new : Summary) → known_of new.vars ≡ known_of old.vars
     → new.failed ≡ old.failed → new.notified.items ≡ old.notified.items → new.counts ≡ old.counts → Shows play start entries old
     → Shows play start entries new
@@ -131,14 +131,14 @@ shows_same play start entries old new known failed marks counts shown =
       counts = λ few. counts ∙ shown.counts few;
     }
 
--- of no row
+-- for no row
 pub shows_none : (play : Play) (summary : Summary) → summary.failed ≡ false → length summary.notified.items ≡ length play.steps.items - play.tasks
     → ((handler : ℕ) → handler < length summary.notified.items → mark_at summary.notified.items handler ≡ false) → summary.counts ≡ counts_of []
     → Shows play (known_of summary.vars) [] summary
 shows_none play summary failed handlers notified counts =
     record { known = refl; failed = failed; handlers = handlers; notified = notified; counts = λ few. counts }
 
--- a step is due by the summary where it is by the rows
+-- a step is due by the summary exactly if it is by the rows
 pub due_shown : (play : Play) (start : Known) (entries : List Entry) (summary : Summary) (place : ℕ) → place < length play.steps.items
     → Shows play start entries summary
     → (not summary.failed && (nat_lt place play.tasks || mark_at summary.notified.items (place - play.tasks))) ≡ is_due play entries place

@@ -55,7 +55,7 @@ agree play known column other (suc place) alike =
     let row = same_row play known rows place (column place) (other place) (alike place (omega arith)) in
     ap (λ (new : List Entry). rows ++ new) row ∙ ap (λ (l : List Entry). l ++ row_if_due play known l place (other place)) before
 
--- the row of a step, where it adds one
+-- the row of a step, if it adds one
 only_row : (P : List Entry → Type 0) (known : Known) (step : Option Step) (place : ℕ) (given : Ending) → P []
     → ((entry : Entry) → entry.step ≡ place → P (entry ∷ [])) → P (row_at known step place given)
 only_row P known None place given none some = none
@@ -68,12 +68,12 @@ only_due_row P false rows none some = none
 abbrev Stays : (ℕ → List Entry → Type 0) → Type 0
 Stays P = (place : ℕ) (rows : List Entry) → P place rows → P (suc place) rows
 
--- it stays with a row of a step that is due
+-- the property is preserved by the row of a step that is due
 abbrev StaysWithRow : (ℕ → List Entry → Type 0) → Play → Type 0
 StaysWithRow P play =
     (place : ℕ) (rows : List Entry) (entry : Entry) → P place rows → IsTrue (is_due play rows place) → entry.step ≡ place → P (suc place) (rows ++ entry ∷ [])
 
--- what holds of no rows and stays holds of each track
+-- a property that holds for no rows and is preserved holds for each track
 pub along : (P : ℕ → List Entry → Type 0) (play : Play) (known : Known) (column : Column) → P 0 [] → Stays P → StaysWithRow P play → (steps : ℕ) → P steps (track play known column steps)
 unfolding track
 along P play known column none stays more zero = none
@@ -118,7 +118,7 @@ pub rise : StepsRise
 rise play known column steps =
     along Rises play known column rises-none (λ place rows rises. (rises.0, below-step place rows rises.1)) (rises_with play) steps
 
--- each row is due by those before it, the first of them behind these
+-- each row is due by the earlier ones, which start with these
 abbrev DueBehind : Play → List Entry → List Entry → Type 0
 DueBehind play before [] = Unit {0}
 DueBehind play before (entry ∷ later) =

@@ -1,4 +1,4 @@
--- What a step asks of a host before a program runs.
+-- What a step requests of a host before a program runs.
 use Rattle.std.specs.Prelude.{ℕ, true, false, nat_lt, Option, Some, None, Ok, Err, List, [], ◌∷◌, length, map, string_bytes, if◌then◌else◌}
 use Rattle.cond.specs.Meaning.{Environment, Verdict}
 use Rattle.text_syntax.specs.Words.{parts_of}
@@ -15,12 +15,12 @@ use Rattle.host_track.specs.declared.step_request.StepRequest.TheVariants as ask
 use Rattle.host_track.specs.declared.wording.Wording.{Wording}
 use Rattle.host_track.specs.declared.wording.Wording.TheVariants as wording
 
--- the words of a program, or how the step ends without one
+-- the arguments of a program, or how the step ends without one
 pub data Request : Type 0 where
   job : List (List ℕ) → Request
   settled : Ending → Request
 
--- the text of a word, or how the step ends without one
+-- the string of an argument, or how the step ends without one
 pub data Word : Type 0 where
   text : List ℕ → Word
   ended : Ending → Word
@@ -33,11 +33,11 @@ abbrev pub worded_as : Wording → Word
 worded_as (wording.Text bytes) = text (string_bytes bytes)
 worded_as (wording.Settled outcome) = ended (ending_of outcome)
 
--- a step without `when` is to run
+-- a step without `when` runs
 abbrev pub is_to_run : Environment → Step → Verdict
 is_to_run e step = decided e step.when true
 
--- a name without a value; else what the word renders to, which may be too long
+-- a name without a value; otherwise what the argument renders to, which can be too long
 abbrev pub worded_by : Option Name → List ℕ → Word
 worded_by (Some name) rendering = ended (ending.undefined name)
 worded_by None rendering =
@@ -46,7 +46,7 @@ worded_by None rendering =
 abbrev pub worded : Values → List ℕ → Word
 worded values word = worded_by (first_undefined values (parts_of word)) (rendered values word)
 
--- of two words that have no text the first decides
+-- of two arguments that can't be rendered, the first decides
 abbrev pub with_word : Word → Request → Request
 with_word (ended end) rest = settled end
 with_word (text word) (job words) = job (word ∷ words)
@@ -56,18 +56,18 @@ abbrev pub words_asked : Values → List (List ℕ) → Request
 words_asked values [] = job []
 words_asked values (word ∷ words) = with_word (worded values word) (words_asked values words)
 
--- the words are asked for where `when` holds
+-- the arguments are rendered only if `when` holds
 abbrev pub asked_if : Verdict → Request → Request
 asked_if (Ok true) words = words
 asked_if (Ok false) words = settled ending.skipped
 asked_if (Err name) words = settled (ending.undefined name)
 
--- what a step asks of the host
+-- what a step requests of the host
 abbrev pub asks : Known → Step → Request
 asks known step =
     asked_if (is_to_run (environment_in known) step) (words_asked (values_in known) step.words)
 
--- how the step ends: as was settled, or as its program ended
+-- how the step ends: as it was settled, or as its program ended
 abbrev pub end_of : Request → Ending → Ending
 end_of (job words) given = given
 end_of (settled end) given = end

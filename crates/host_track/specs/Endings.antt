@@ -1,4 +1,4 @@
--- How a step ended on a host, and the row that this leaves.
+-- How a step ended on a host, and the resulting row.
 use Rattle.std.specs.Prelude.{ℕ, ℤ, pos, Bool, true, false, not, Some, None, List, [], string_bytes}
 use Rattle.std.specs.Ordering.{int_eq}
 use Rattle.group_tree.specs.Names.{Name}
@@ -6,8 +6,8 @@ use Rattle.play_model.specs.Results.{Row}
 use Rattle.host_track.specs.declared.outcome.Outcome.{Outcome}
 use Rattle.host_track.specs.declared.outcome.Outcome.TheVariants as outcome
 
--- its program ended, with a return code and two texts; it could not be started; its end could not be had; the step was
--- not to run; a name had no value
+-- its program ended, with a return code and two strings; it could not be started; its end could not be obtained; the
+-- step was skipped; a name had no value
 pub data Ending : Type 0 where
   ran : ℤ → List ℕ → List ℕ → Ending
   not_started : Ending
@@ -22,7 +22,7 @@ ending_of outcome.Lost = lost
 ending_of outcome.Skipped = skipped
 ending_of (outcome.Undefined name) = undefined (string_bytes name)
 
--- without a return code and without texts
+-- without a return code and without output
 abbrev pub without_program : Bool → Bool → Row
 without_program has_failed is_skipped =
     record { rc = None; stdout = []; stderr = []; changed = false; failed = has_failed; skipped = is_skipped }

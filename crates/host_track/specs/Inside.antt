@@ -1,8 +1,8 @@
--- What only the proofs need.
+-- Definitions that only the proofs need.
 use Rattle.std.specs.Prelude.{ℕ, List, ◌++◌}
 use Rattle.host_track.specs.Asking.{Request, job, settled}
 
--- with these words in front
+-- with these arguments in front
 abbrev pub onto : List (List ℕ) → Request → Request
 onto front (job words) = job (front ++ words)
 onto front (settled end) = settled end

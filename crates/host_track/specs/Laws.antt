@@ -12,7 +12,7 @@ use Rattle.host_track.specs.Tracks.{Entry, Column, track, has_failed, is_due, is
 abbrev pub known_before : Play → Known → Column → ℕ → Known
 known_before play known column step = known_after play known (track play known column step)
 
--- a step that is due adds its row: as it settles itself, or as the column says
+-- a step that is due adds its row: as the step settles it, or as the column gives it
 abbrev pub DueStepAddsItsRow : Type 0
 DueStepAddsItsRow =
     (play : Play) (known : Known) (column : Column) (place : ℕ) (step : Step) → IsTrue (is_due play (track play known column place) place)
@@ -24,12 +24,12 @@ abbrev pub OtherStepAddsNone : Type 0
 OtherStepAddsNone =
     (play : Play) (known : Known) (column : Column) (place : ℕ) → IsFalse (is_due play (track play known column place) place) → track play known column (suc place) ≡ track play known column place
 
--- the rows of the first steps stay, and those of the steps behind them come after
+-- the rows of the first steps stay, and those of later steps come after them
 abbrev pub GrowsByAppending : Type 0
 GrowsByAppending =
     (play : Play) (known : Known) (column : Column) (steps more : ℕ) → (rest : List Entry) × (track play known column (steps + more) ≡ track play known column steps ++ rest)
 
--- two columns are alike up to a step in what they say of the steps that are due by the first of them
+-- two columns agree before a step on all steps that are due by the first of them
 abbrev pub AgreeWhereDue : Play → Known → Column → Column → ℕ → Type 0
 AgreeWhereDue play known column other steps =
     (place : ℕ) → place < steps → IsTrue (is_due play (track play known column place) place) → column place ≡ other place
@@ -38,13 +38,13 @@ abbrev pub AgreeingColumnsGiveOneTrack : Type 0
 AgreeingColumnsGiveOneTrack =
     (play : Play) (known : Known) (column other : Column) (steps : ℕ) → AgreeWhereDue play known column other steps → track play known column steps ≡ track play known other steps
 
--- a later row is of a later step, and each is of a step before this one
+-- later rows have later steps, and each has a step before this one
 abbrev pub StepsRise : Type 0
 StepsRise =
     (play : Play) (known : Known) (column : Column) (steps : ℕ) → AllPairs (λ (a b : Entry). a.step < b.step) (track play known column steps)
     × All (λ (entry : Entry). entry.step < steps) (track play known column steps)
 
--- wherever a track is cut at a row, the row's step is due by the rows before it
+-- at every row of a track, the row's step is due by the rows before it
 abbrev pub EachRowIsDue : Type 0
 EachRowIsDue =
     (play : Play) (known : Known) (column : Column) (steps : ℕ) (before after : List Entry) (entry : Entry) → track play known column steps
@@ -60,7 +60,7 @@ HandlersRunWhereNotified =
     (play : Play) (known : Known) (column : Column) (steps : ℕ) (before after : List Entry) (entry : Entry) → track play known column steps
     ≡ before ++ entry ∷ after → play.tasks ≤ entry.step → IsTrue (is_notified play before (entry.step - play.tasks))
 
--- a host that owes has a row of each step, handlers too, unless one of its rows has failed
+-- a host that owes handlers has a row for each step, including handlers, unless one of its rows has failed
 abbrev pub OwingHostsRunEachStep : Type 0
 OwingHostsRunEachStep =
     (play : Play) (known : Known) (column : Column) (steps step : ℕ) → IsTrue known.owes → steps ≤ length play.steps.items

@@ -1,4 +1,4 @@
--- What a summary of a host's rows says of them.
+-- What a summary of a host's rows states.
 use Rattle.std.specs.Prelude.{◌≡◌, ℕ, ◌-◌, ◌<◌, nat_lt, not, ◌&&◌, ◌||◌, Bool, false, IsTrue, Option, Some, None, List, length, slice_index_or}
 use Rattle.std.specs.List.{list_any}
 use Rattle.play_model.specs.Results.{row_of}
@@ -17,12 +17,12 @@ use Rattle.host_track.specs.declared.summary.Summary.{Summary}
 abbrev pub mark_at : List Bool → ℕ → Bool
 mark_at marks handler = slice_index_or marks handler false
 
--- the step at this place is due by the summary
+-- the step at this index is due by the summary
 abbrev pub shows_due : Play → Summary → ℕ → Bool
 shows_due play summary place =
     not summary.failed && (nat_lt place play.tasks || mark_at summary.notified.items (place - play.tasks))
 
--- the summary is that of these rows of a host that began so; the counts are exact for up to 2^32 - 1 rows
+-- the summary has these rows of a host that started so; the counts are exact for up to 2^32 - 1 rows
 pub record Shows (play : Play) (start : Known) (entries : List Entry) (summary : Summary) : Type 0 where
   pub known : known_of summary.vars ≡ known_after play start entries
   pub failed : summary.failed ≡ has_failed entries
@@ -38,12 +38,12 @@ does_register name step = is_called (register_of step) name
 abbrev pub does_play_register : Play → Name → Bool
 does_play_register play name = list_any (does_register name) play.steps.items
 
--- a place is kept for the step's result, where it has a name
+-- the step's result has a slot, if the step registers it
 abbrev pub HasPlaceFor : Vars → Option Name → Type 0
 HasPlaceFor vars None = Unit {0}
 HasPlaceFor vars (Some name) = IsTrue (has_place_in vars name)
 
--- a copy of the row of the table, where the step registers its result
+-- a copy of the row of the table, if the step registers its result
 abbrev pub IsCopyFor : Option Name → Ending → Option Registered → Type 0
 IsCopyFor None ending copy = Unit {0}
 IsCopyFor (Some name) ending None = ⊥

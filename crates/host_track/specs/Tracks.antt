@@ -1,4 +1,4 @@
--- What one host does in a play, by itself. Steps are counted from 0, handlers from 0 behind the tasks.
+-- What one host does in a play on its own. Steps are counted from 0, and handlers from 0 after the tasks.
 use Rattle.std.specs.Prelude.{ℕ, zero, suc, ◌-◌, nat_lt, Bool, not, ◌&&◌, ◌||◌, Option, Some, None, List, [], ◌∷◌, ◌++◌, length, map, slice_get, if◌then◌else◌}
 use Rattle.std.specs.List.{list_any}
 use Rattle.fleet_index.specs.NumberLists.{has_number}
@@ -13,26 +13,27 @@ use Rattle.host_track.specs.declared.judged.Judged.{Judged}
 use Rattle.host_track.specs.declared.counts.Counts.{Counts}
 use Rattle.host_track.specs.Asking.{asks, end_of}
 
--- a row of a track: the step, how it ended, what was found of that, and whether its host owes the play's handlers
+-- a row of a track: the step, how it ended, how that was judged, and whether its host owes the play's handlers
 pub record Entry : Type 0 where
   pub step : ℕ
   pub ending : Ending
   pub finding : Finding
   pub owes : Bool
 
--- how the program of each step ends, if it is run
+-- how the program of each step ends, if it runs
 abbrev pub Column : Type 0
 Column = ℕ → Ending
 
 abbrev pub step_at : Play → ℕ → Option Step
 step_at play place = slice_get play.steps.items place
 
--- the handlers that a step names
+-- the handlers that a step notifies
 abbrev pub handlers_of : Option Step → List ℕ
 handlers_of None = []
 handlers_of (Some step) = step.notify.items
 
--- each row of a host that owes notifies all handlers, whatever it says; another, where it is judged ok and changed, those that its step names
+-- each row of a host that owes handlers notifies all of them; any other row, if it is ok and changed, notifies those
+-- of its step
 abbrev pub notifies : Play → ℕ → Entry → Bool
 notifies play handler entry =
     entry.owes || (does_notify entry.finding.judged && has_number handler (handlers_of (step_at play entry.step)))
@@ -54,24 +55,24 @@ known_with known None entry = known
 known_with known (Some step) entry =
     with_result (register_of step) (registered_row entry.ending entry.finding) known
 
--- the host with the results of all these rows, of two under one name the later, over those that it had
+-- the host with the results of all these rows; later results replace earlier ones of the same name
 abbrev pub known_after : Play → Known → List Entry → Known
 known_after play known [] = known
 known_after play known (entry ∷ later) =
     known_after play (known_with known (step_at play entry.step) entry) later
 
--- the row of a step that ended so
+-- the row of a step with this end
 abbrev pub entry_of : Known → Step → ℕ → Ending → Entry
 entry_of known step place ending =
     record { step = place; ending = ending; finding = finding_of known step ending; owes = known.owes }
 
--- the row of a step whose program, if it is run, ends so
+-- the row of a step whose program, if it runs, ends so
 abbrev pub row_at : Known → Option Step → ℕ → Ending → List Entry
 row_at known None place given = []
 row_at known (Some step) place given =
     entry_of known step place (end_of (asks known step) given) ∷ []
 
--- the row that a step adds where it is due
+-- the row that a step adds if it is due
 abbrev pub row_if_due : Play → Known → List Entry → ℕ → Ending → List Entry
 row_if_due play known entries place given =
     if is_due play entries place then row_at (known_after play known entries) (step_at play place) place given else []

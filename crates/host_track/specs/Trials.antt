@@ -1,4 +1,4 @@
--- A host while the conditions of a step judge it.
+-- A host as the conditions of a step see it.
 use Rattle.std.specs.Prelude.{ℕ, Option, option_map, List}
 use Rattle.std.specs.Borrow.{Bor}
 use Rattle.group_tree.specs.Names.{Name}
@@ -14,7 +14,7 @@ name_of trial = option_map (λ (name : Bor (List ℕ)). name.now) trial.name
 abbrev pub row_of_trial : Trial → Row
 row_of_trial trial = table_row (ending_of trial.outcome.now)
 
--- the row stands under the name, where there is one
+-- the row is under the name, if there is one
 abbrev pub environment_of_trial : Trial → Environment
 environment_of_trial trial =
     environment_in (with_result (name_of trial) (row_of_trial trial) (known_of trial.vars.now))

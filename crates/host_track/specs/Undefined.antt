@@ -1,4 +1,4 @@
--- The name that a condition of a step wants of a host where it has no value.
+-- The undefined name that a condition of a step reads on a host.
 use Rattle.std.specs.Prelude.{Option, Some, None, Ok, Err}
 use Rattle.group_tree.specs.Names.{Name}
 use Rattle.play_model.specs.Results.{Row}
@@ -8,22 +8,22 @@ use Rattle.host_track.specs.Hosts.{Known, with_result, environment_in}
 use Rattle.host_track.specs.Endings.{Ending, ran, not_started, lost, skipped, undefined, table_row}
 pub use Rattle.host_track.specs.Judging.{decided, register_of}
 
--- the name for want of which a condition says nothing
+-- the undefined name because of which a condition has no verdict
 abbrev pub name_in : Verdict → Option Name
 name_in (Ok b) = None
 name_in (Err name) = Some name
 
--- the first of two conditions decides, where it wants one
+-- the undefined name of the first condition, otherwise that of the second
 abbrev pub first_name : Verdict → Verdict → Option Name
 first_name (Ok b) later = name_in later
 first_name (Err name) later = Some name
 
--- of `changed_when`, or else of `failed_when`
+-- in `changed_when`, otherwise in `failed_when`
 abbrev pub undefined_by : Environment → Step → Row → Option Name
 undefined_by e step row =
     first_name (decided e step.changed_when row.changed) (decided e step.failed_when row.failed)
 
--- they are asked of a program that ended, and see its row under the step's name
+-- they are evaluated for a program that ended, with its row under the step's register name
 abbrev pub undefined_in : Known → Step → Ending → Option Name
 undefined_in known step (ran rc stdout stderr) =
     undefined_by (environment_in (with_result (register_of step) (table_row (ran rc stdout stderr)) known)) step (table_row (ran rc stdout stderr))

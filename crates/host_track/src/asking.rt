@@ -1,4 +1,4 @@
-//! Whether a step runs on a host, and with which words.
+//! Whether a step runs on a host, and with which arguments.
 ghost use Rattle.std.specs.Prelude.{◌≡◌, IfOk};
 ghost use Rattle.cond.specs.Trees.{told};
 ghost use Rattle.play_model.specs.Plays.{HasPlainWords};
@@ -14,7 +14,7 @@ use host_vars::Vars;
 use play_model::Step;
 use std::alloc::{AllocError, Global};
 
-/// What the step asks of the host with these variables and results. It fails for want of memory alone.
+/// Returns what the step requests of the host with these variables and results. Fails only if an allocation fails.
 pub fn ask(alloc: Global, step: &Step, vars: &Vars) -> Result<StepRequest, AllocError>
     requires { HasPlainWords step.now }
     ensures { IfOk result (λ asked. asked_as asked ≡ asks (known_of vars.now) step.now) }

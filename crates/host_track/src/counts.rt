@@ -1,4 +1,4 @@
-//! How many rows of a host are judged in which way.
+//! How many rows of a host are judged in each way.
 ghost use Rattle.std.specs.Prelude.{◌≡◌, ◌<◌, ◌∷◌, [], ◌++◌, List, length};
 ghost use Rattle.host_track.specs.Counting as spec;
 ghost use Rattle.host_track.specs.Counting.{counts_of};
@@ -17,7 +17,7 @@ pub struct Counts {
 }
 
 impl Counts {
-    /// The counts of no row.
+    /// Returns the counts without any row.
     pub fn none() -> Counts
         ensures { result ≡ counts_of [] }
     {
@@ -30,7 +30,7 @@ impl Counts {
         }
     }
 
-    /// With one row more. They are exact for up to 2^32 - 1 rows, and stop there.
+    /// Counts one more row. The counts are exact for up to 2^32 - 1 rows, and stop there.
     pub fn add(&mut self, judged: Judged)
         ensures ok { self.new.ok ≡ spec.one_more_if (spec.counts_as_ok judged) self.old.ok }
         ensures changed { self.new.changed ≡ spec.one_more_if (spec.counts_as_changed judged) self.old.changed }

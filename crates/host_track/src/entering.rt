@@ -1,4 +1,4 @@
-//! What a row changes on its host.
+//! The changes that a row makes on its host.
 ghost use Rattle.std.specs.Prelude.{◌≡◌, ℕ, ◌<◌, ◌&&◌, ◌||◌, true, IfOk, OnOk, length};
 ghost use Rattle.fleet_index.specs.NumberLists.{has_number};
 ghost use Rattle.play_model.specs.Results.{row_of};
@@ -13,7 +13,7 @@ use host_vars::Vars;
 use play_model::{Registered, Step};
 use std::alloc::{AllocError, Global};
 
-/// Makes a place for the step's result, where it has a name. No result is changed, also where memory is refused.
+/// Creates a slot for the step's result, if the step registers it. No result changes, even if an allocation fails.
 pub(crate) fn reserve(vars: &mut Vars, alloc: Global, step: &Step) -> Result<(), AllocError>
     ensures known { known_of vars.new ≡ known_of vars.old }
     ensures place { OnOk result (HasPlaceFor vars.new (register_of step.now)) }
@@ -24,8 +24,8 @@ pub(crate) fn reserve(vars: &mut Vars, alloc: Global, step: &Step) -> Result<(),
     }
 }
 
-/// A copy of the outcome's row, where the step registers its result: `Summary::enter` takes it. It fails for want of memory
-/// alone.
+/// Copies the outcome's row if the step registers its result, for `Summary::enter`. Fails only if an allocation
+/// fails.
 pub fn copy_for(
     alloc: Global,
     step: &Step,
@@ -39,7 +39,7 @@ pub fn copy_for(
     }
 }
 
-/// Registers the row with what was found of it, where the step has a name for it.
+/// Registers the row with its finding, if the step registers its result.
 pub(crate) fn register(vars: &mut Vars, step: &Step, finding: Finding, copy: Option<Registered>)
     requires { HasPlaceFor vars.old (register_of step.now) }
     ensures { (ending : Ending) → IsCopyFor (register_of step.now) ending copy
@@ -66,7 +66,7 @@ fn found_row(row: Registered, finding: Finding) -> Registered
     }
 }
 
-/// Marks the handlers that the row notifies: all where its host owes them, and else these.
+/// Marks the handlers that the row notifies: all if its host owes them, otherwise those listed.
 pub(crate) fn notify(marks: &mut [bool], owes: bool, notifies: bool, handlers: &[usize])
     ensures { (handler : ℕ) → handler < length marks.old
         → mark_at marks.new handler ≡ (mark_at marks.old handler || (owes || (notifies && has_number handler handlers.now))) }

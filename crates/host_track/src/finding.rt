@@ -1,4 +1,4 @@
-//! What is found of a step's end on a host.
+//! How a step's end on a host is judged, with the flags of its row.
 use crate::judged::Judged;
 
 /// `changed` and `failed` are those of the row that is registered.

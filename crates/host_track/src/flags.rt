@@ -1,6 +1,6 @@
-//! What the conditions of a step make of its row.
+//! The flags that the conditions of a step give its row.
 
-/// `undefined` says that a name without a value was met on the way.
+/// `undefined` is set if a condition read a name without a value.
 #[derive(Clone, Copy, Debug, PartialEq, Eq)]
 pub struct Flags {
     pub changed: bool,

@@ -2,13 +2,13 @@
 ghost use Rattle.std.specs.Prelude.{◌≡◌};
 ghost use Rattle.host_track.specs.Counting as spec;
 
-/// Each row of a host is one of these.
+/// The verdict on a row of a host.
 #[derive(Clone, Copy, Debug, PartialEq, Eq)]
 pub enum Judged {
     Ok { changed: bool },
     /// It failed, and the step ignores errors.
     Ignored { changed: bool },
-    /// The host takes no further part in the play.
+    /// It failed, and the host takes no further part in the play.
     Failed,
     Skipped,
 }
@@ -20,7 +20,7 @@ impl Judged {
         matches!(self, Judged::Failed)
     }
 
-    /// Ok and changed: the step notifies its handlers.
+    /// Returns whether the row is ok and changed, so that the step notifies its handlers.
     pub fn notifies(self) -> bool
         ensures { result ≡ spec.does_notify self }
     {

@@ -16,7 +16,7 @@ use cond::{Cond, Env, Undefined, eval};
 use host_vars::Vars;
 use play_model::Step;
 
-/// What is found of the outcome of a step on the host with these variables and results. It takes no memory.
+/// Judges the outcome of a step on the host with these variables and results. Does not allocate.
 pub fn judge(step: &Step, vars: &Vars, outcome: &Outcome) -> Finding
     ensures { result ≡ finding_of (known_of vars.now) step.now (ending_of outcome.now) }
 {
@@ -68,14 +68,14 @@ fn without_program(failed: bool, undefined: bool) -> Flags
     }
 }
 
-/// The name under which the step registers its result.
+/// Returns the name under which the step registers its result.
 pub(crate) fn register_of(step: &Step) -> Option<&str>
     ensures { option_map (λ name. name.now) result ≡ spec.register_of step.now }
 {
     step.register.as_ref().map(String::as_str)
 }
 
-// Where `changed_when` is undefined, `failed_when` is not asked.
+// If `changed_when` reads an undefined name, `failed_when` is not evaluated.
 fn flags_of_run(step: &Step, trial: &Trial<'_>) -> Flags
     ensures { result ≡ spec.flags_of_run (environment_of_trial trial.now) step.now (row_of_trial trial.now) }
 {
@@ -100,7 +100,7 @@ fn flags_of_run(step: &Step, trial: &Trial<'_>) -> Flags
     }
 }
 
-// What the condition says, where there is one.
+// Evaluates the condition, or returns `stays` if there is none.
 pub(crate) fn decided<'c, E: Env>(
     condition: &'c Option<Cond>,
     env: &E,

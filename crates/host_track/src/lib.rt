@@ -1,4 +1,4 @@
-//! What one host does in a play: what a step asks of it, how its end is judged, what it has registered.
+//! What one host does in a play: what a step requests of it, how its end is judged, and what it has registered.
 #![tactic(auto)]
 
 mod asking;

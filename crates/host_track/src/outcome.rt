@@ -8,26 +8,26 @@ use std::alloc::{AllocError, Global};
 
 #[derive(Debug, PartialEq, Eq, Drop)]
 pub enum Outcome {
-    /// The program ended. `rc` is -1 where a signal ended it.
+    /// The program ended. `rc` is -1 if a signal ended it.
     Ran {
         rc: i32,
         stdout: String,
         stderr: String,
     },
-    /// The program could not be started, or one of its words is too long.
+    /// The program could not be started, or one of its arguments is too long.
     NotStarted,
-    /// The program was started, and its output or its end could not be had.
+    /// The program was started, and its output or its end could not be obtained.
     Lost,
     /// The step's `when` is false on the host.
     Skipped,
-    /// A name in the step's `when` or in a word has no value on the host.
+    /// A name in the step's `when` or in an argument has no value on the host.
     Undefined {
         name: String,
     },
 }
 
 impl Outcome {
-    /// An equal one. It fails for want of memory alone.
+    /// Returns an equal outcome. Fails only if an allocation fails.
     pub fn copy(&self, alloc: Global) -> Result<Outcome, AllocError>
         ensures { IfOk result (λ copy. ending_of copy ≡ ending_of self.now) }
     {
@@ -46,7 +46,7 @@ impl Outcome {
         }
     }
 
-    /// A copy of what the outcome says, before any condition of the step changes it.
+    /// Returns the row of the outcome, before any condition of the step changes it.
     pub fn row(&self, alloc: Global) -> Result<Registered, AllocError>
         ensures { IfOk result (λ row. row_of row ≡ table_row (ending_of self.now)) }
     {

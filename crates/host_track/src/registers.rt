@@ -9,8 +9,8 @@ use play_model::{Play, Registers, Step};
 use std::alloc::{AllocError, Global};
 use std::sync::Arc;
 
-/// The registers of the play's steps, each once. `Vars::begin_play` takes them, so that all hosts of the play share one table of
-/// names. It fails for want of memory alone.
+/// Returns the registers of the play's steps, each once. `Vars::begin_play` takes them, so that all hosts of the play
+/// share one table of names. Fails only if an allocation fails.
 pub fn registers_of(alloc: Global, play: &Play) -> Result<Arc<Registers>, AllocError>
     ensures { IfOk result (λ registers. (name : Name) → is_register (arc_value registers) name ≡ does_play_register play.now name) }
 {
@@ -22,7 +22,7 @@ pub fn registers_of(alloc: Global, play: &Play) -> Result<Arc<Registers>, AllocE
     Ok(shared)
 }
 
-/// Adds the name under which the step registers, if it has one.
+/// Adds the name under which the step registers its result, if it has one.
 fn add(registers: &mut Registers, alloc: Global, step: &Step) -> Result<(), AllocError>
     ensures { OnOk result ((name : Name) → is_register registers.new name
         ≡ (does_register name step.now || is_register registers.old name)) }

@@ -1,4 +1,4 @@
-//! What a run keeps of a host's rows.
+//! What a run stores of a host's rows.
 ghost use Rattle.std.specs.Prelude.{◌≡◌, ℕ, ◌-◌, ◌<◌, nat_lt, not, ◌&&◌, ◌||◌, ◌∷◌, [], ◌++◌, List, Some, IfOk, OnOk, length};
 ghost use Rattle.play_model.specs.Plays.{HasPlainWords};
 ghost use Rattle.play_model.specs.declared.play.Play as plays;
@@ -21,7 +21,8 @@ use host_vars::Vars;
 use play_model::{Play, Registered, Step};
 use std::alloc::{AllocError, Global};
 
-/// The host's variables and results, which handlers it was notified of, whether it failed, and how its rows were judged.
+/// The host's variables and results, the handlers it was notified of, whether it failed, and how its rows were
+/// judged.
 #[derive(Drop)]
 pub struct Summary {
     vars: Vars,
@@ -31,8 +32,8 @@ pub struct Summary {
 }
 
 impl Summary {
-    /// Of no row, for a host that begins the play with these variables and results, as `Vars::begin_play` gives them. It fails for
-    /// want of memory alone, and then drops `vars`.
+    /// Creates an empty summary for a host that starts the play with these variables and results, as
+    /// `Vars::begin_play` gives them. Fails only if an allocation fails, and then drops `vars`.
     pub fn new(alloc: Global, play: &Play, vars: Vars) -> Result<Summary, AllocError>
         ensures { IfOk result (Shows play.now (known_of vars) []) }
     {
@@ -46,7 +47,7 @@ impl Summary {
         })
     }
 
-    /// Whether the step at this place of the play is due on the host. It takes no memory.
+    /// Returns whether the step at this index of the play is due on the host. Does not allocate.
     pub fn is_due(&self, play: &Play, place: usize) -> bool
         requires { place < length play.now.steps.items }
         ensures value { result ≡ shows_due play.now self.now place }
@@ -71,8 +72,8 @@ impl Summary {
         }
     }
 
-    /// What the step asks of the host, and a place for its result, so that `enter` takes no memory. Nothing else is
-    /// changed, also where memory is refused.
+    /// Returns what the step requests of the host, and creates a slot for its result, so that `enter` does not
+    /// allocate. Nothing else changes, even if an allocation fails.
     pub fn ask(&mut self, alloc: Global, step: &Step) -> Result<StepRequest, AllocError>
         requires { HasPlainWords step.now }
         ensures asked { (play : plays.Play) (start : Known) (entries : List Entry) → Shows play start entries self.old
@@ -85,8 +86,8 @@ impl Summary {
         ask(alloc, step, &self.vars)
     }
 
-    /// Enters the row of a step that ended so, and answers what was found of it. `copy` is the outcome's row, where the
-    /// step registers its result. It takes no memory.
+    /// Enters the row of a step with this outcome, and returns how it was judged. `copy` is the outcome's row, if the
+    /// step registers its result. Does not allocate.
     pub fn enter(&mut self, step: &Step, outcome: &Outcome, copy: Option<Registered>) -> Finding
         requires place { HasPlaceFor self.old.vars (register_of step.now) }
         requires copy { IsCopyFor (register_of step.now) (ending_of outcome.now) copy }
@@ -108,7 +109,7 @@ impl Summary {
         finding
     }
 
-    /// Whether a row is judged failed.
+    /// Returns whether a row is judged failed.
     pub fn has_failed(&self) -> bool
         ensures value { result ≡ self.now.failed }
         ensures failed { (play : plays.Play) (start : Known) (entries : List Entry) → Shows play start entries self.now
@@ -117,21 +118,21 @@ impl Summary {
         self.failed
     }
 
-    /// How the rows were judged.
+    /// Returns how the rows were judged.
     pub fn counts(&self) -> Counts
         ensures { result ≡ self.now.counts }
     {
         self.counts
     }
 
-    /// The host's variables, with the results that its rows registered.
+    /// Returns the host's variables, with the results that its rows registered.
     pub fn vars(&self) -> &Vars
         ensures { result.now ≡ self.now.vars }
     {
         &self.vars
     }
 
-    /// The host's variables with its results, and the counts. With the play it is over what the host owed.
+    /// Returns the host's variables with its results, and the counts. The host's debt ends with the play.
     pub fn into_parts(self) -> (Vars, Counts)
         ensures vars { known_of result.0 ≡ without_debt (known_of self.vars) }
         ensures counts { result.1 ≡ self.counts }

@@ -1,4 +1,4 @@
-//! A host while the conditions of a step judge it: the row of the table stands under the step's name.
+//! A host as the conditions of a step see it, with the outcome's row under the step's register name.
 ghost use Rattle.std.specs.Prelude.{◌≡◌, option_map};
 ghost use Rattle.group_tree.specs.Scalars.{lent_scalar};
 ghost use Rattle.host_vars.specs.HostVars.{field_in_row};
@@ -9,7 +9,7 @@ use crate::outcome::Outcome;
 use cond::{Env, Field, Scalar, Value};
 use host_vars::Vars;
 
-/// The host's variables and results, and an outcome that is registered under the name, where there is one.
+/// The host's variables and results, and an outcome registered under the name, if there is one.
 #[derive(Clone, Copy)]
 pub(crate) struct Trial<'t> {
     pub(crate) vars: &'t Vars,
@@ -18,7 +18,7 @@ pub(crate) struct Trial<'t> {
 }
 
 impl Trial<'_> {
-    /// Whether the outcome is registered under this name.
+    /// Returns whether the outcome is registered under this name.
     fn is_called(&self, name: &str) -> bool
         ensures { result ≡ is_called (name_of self.now) name.now }
     {

@@ -1,4 +1,4 @@
-//! The name that a condition of a step wants of a host where it has no value.
+//! The undefined name that a condition of the step reads on a host.
 ghost use Rattle.std.specs.Prelude.{◌≡◌, option_map};
 ghost use Rattle.host_track.specs.Endings.{ending_of};
 ghost use Rattle.host_track.specs.Hosts.{known_of};
@@ -11,8 +11,9 @@ use crate::trial::Trial;
 use host_vars::Vars;
 use play_model::Step;
 
-/// The name without a value for which `judge` finds that the step has failed: of `changed_when`, or else of `failed_when`. They are asked
-/// where a program ended; where they have their values, or there was no such end, it is none. It takes no memory.
+/// Returns the name without a value because of which `judge` finds that the step has failed: in `changed_when`,
+/// otherwise in `failed_when`. These are evaluated only if a program ended. Returns `None` if every name has a value,
+/// or if no program ended. Does not allocate.
 pub fn undefined_name<'c>(step: &'c Step, vars: &Vars, outcome: &Outcome) -> Option<&'c str>
     ensures { option_map (λ name. name.now) result ≡ spec.undefined_in (known_of vars.now) step.now (ending_of outcome.now) }
 {

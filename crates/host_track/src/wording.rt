@@ -1,4 +1,4 @@
-//! One word of a step, for a host.
+//! One argument of a step, for a host.
 ghost use Rattle.std.specs.Prelude.{◌≡◌, IfOk, IsFalse};
 ghost use Rattle.text_syntax.specs.Words.{has_braces};
 ghost use Rattle.host_track.specs.Hosts.{known_of, values_in};
@@ -9,7 +9,7 @@ use crate::outcome::Outcome;
 use host_vars::{RenderFault, Vars};
 use std::alloc::{AllocError, Global};
 
-/// The text of a word, or how the step ends where it has none.
+/// The rendered argument, or how the step ends if it can't be rendered.
 #[derive(Debug, Drop)]
 pub(crate) enum Wording {
     Text(String),

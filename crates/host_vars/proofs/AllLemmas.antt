@@ -1,4 +1,4 @@
--- Each host's groups and rows, picked from those of all hosts.
+-- Each host's groups and rows, selected from those of all hosts.
 use Rattle.std.proofs.Common.{◌≡◌, ℕ, ◌+◌, ◌<◌, Bool, All, List, [], ◌∷◌, ◌++◌, length, filter, get_or, map, IsPermutation, sym, ap, ◌∙◌, refl, subst, arith}
 use Rattle.std.specs.List.{flat_map, range_with_len}
 use Rattle.std.specs.declared.sync.Arc.{Arc}
@@ -45,7 +45,7 @@ range_below n k l =
 abbrev pub tested : (ℕ → ℕ → Bool) → ℕ → ℕ → List (List ℕ)
 tested p n count = map (λ k. numbers_where (p k) n) (range_with_len 0 count)
 
--- the host stands in the list at a place
+-- the list at an index contains the host
 abbrev pub stands_in : List (List ℕ) → ℕ → ℕ → Bool
 stands_in lists host place = has_number host (list_at lists place)
 
@@ -62,7 +62,7 @@ list_there : (p : ℕ → ℕ → Bool) (n count : ℕ) (lists : List (List ℕ)
 list_there p n count lists is k l =
     ap (λ (o : List (List ℕ)). list_at o k) is ∙ get_or-map-range_with_len (λ k. numbers_where (p k) n) 0 count k k [] l (omega arith)
 
--- what passes by its place passes by itself
+-- likewise by index
 module _ {Y : Type 0} (f : ℕ → Y) (order : List ℕ) (q r : ℕ → Bool) (same : (place : ℕ) → place < length order → q place ≡ r (get_or order place 0)) where
   abbrev at : ℕ → ℕ
   at place = get_or order place 0
@@ -108,7 +108,7 @@ each_mapped : {X Y : Type 0} (f : X → Y) (Q : ℕ → Y → Type 0) (xs : List
 each_mapped f Q [] h i none l = absurd (omega arith)
 each_mapped f Q (x ∷ xs) h i none l = subst (Q i) (sym (get_or-map f (x ∷ xs) i x none l)) (h i x l)
 
--- the layer of a group by its number in a walk
+-- the layer of a group by its number in preorder
 abbrev layer_of : List (Subtree × ℕ) → ℕ → LayerView
 layer_of walk number = group_layer (walked_at walk number).0
 

@@ -1,4 +1,4 @@
--- A host has the variables of the groups that hold it, in their order, and its own over them.
+-- A host has the variables of the groups that contain it, in order, overridden by its own.
 use Rattle.std.proofs.Common.{◌≡◌, ℕ, suc, ◌+◌, ◌<◌, Bool, true, false, ◌&&◌, cond, Option, List, [], ◌∷◌, ◌++◌, length, filter, get_or, map, IsPermutation, IsSorted, sym, ap, ◌∙◌, refl, subst, arith}
 use Rattle.std.specs.List.{flat_map, range_with_len}
 use Rattle.std.specs.Option.{option_or}
@@ -134,7 +134,7 @@ module _ (inventory : Inventory) (fleet : FleetView) (host : ℕ) (walk : List (
   abbrev laid : List Place
   laid = map (place_at all) order
 
-  -- the layer of a group, and whether the group holds the host
+  -- the layer of a group, and whether the group contains the host
   abbrev layer_of : ℕ → LayerView
   layer_of n = group_layer (walked_at walk n).0
 

@@ -1,4 +1,4 @@
--- Look-ups in layers, from the first to the last.
+-- Reading layers from the first to the last.
 use Rattle.std.proofs.Common.{◌≡◌, Option, List, [], ◌∷◌, ◌++◌, map, sym, ap, ◌∙◌}
 use Rattle.std.specs.Option.{option_or}
 use Rattle.group_tree.specs.Names.{Name}
@@ -6,7 +6,7 @@ use Rattle.group_tree.specs.Variables.{Scalar}
 use Rattle.host_vars.specs.Tables.{LayerView, last_value}
 use Rattle.host_vars.proofs.ValueLemmas.{or_assoc, or_none}
 
--- the value in the last layer, or else in those before it
+-- the value in the last layer, otherwise in those before it
 pub last_before : {X : Type 0} (view : X → LayerView) (name : Name) (left earlier : List X) (layer : X) (found : Option Scalar) → left ≡ earlier ++ layer ∷ []
     → found ≡ (view layer).value name → last_value name (map view left) ≡ option_or found (last_value name (map view earlier))
 last_before {X = X} view name left earlier layer found is here =

@@ -1,4 +1,4 @@
--- A walk over a tree's groups, and an order of their numbers, as they are lent to the calls that go over them.
+-- A tree's groups in preorder, and an order of their numbers, as borrowed by the calls that use them.
 use Rattle.std.proofs.Common.{◌≡◌, ℕ, ◌∙◌, List, length, IsPermutation, sym, subst}
 use Rattle.std.specs.List.{range_with_len}
 use Rattle.std.proofs.lemmas.List.{length-map}

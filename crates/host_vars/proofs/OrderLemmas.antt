@@ -1,4 +1,4 @@
--- Numbers of groups sorted by how many groups stand above and by name.
+-- Numbers of groups sorted by the number of groups above and by name.
 use Rattle.std.proofs.Common.{◌≡◌, ℕ, ◌+◌, ◌<◌, false, All, List, [], ◌∷◌, ◌++◌, length, get_or, map, Bor, IsPermutation, sym, ap, ◌∙◌, refl, subst, arith}
 use Rattle.std.specs.List.{range_with_len}
 use Rattle.std.specs.List.Sorted.{IsSortedBy}
@@ -14,14 +14,14 @@ use Rattle.group_tree.specs.Names.{Name}
 use Rattle.group_tree.specs.Subtrees.{Subtree}
 use Rattle.host_vars.specs.Walked.{no_subtree, walked_at, walked_cmp, IsInOrder}
 
--- how many groups stand above, the name, and the number
+-- the number of groups above, the name, and the number
 abbrev pub Key : Type 0
 Key = ℕ × Bor (List ℕ) × ℕ
 
 abbrev pub number_of : Key → ℕ
 number_of key = key.2
 
--- the key says how many groups stand above the group of its number, and this group's name
+-- the key has the number of groups above the group with its number, and this group's name
 abbrev pub HasDepth : List (Subtree × ℕ) → Key → Type 0
 HasDepth walk key = key.0 ≡ (walked_at walk key.2).1
 
@@ -54,7 +54,7 @@ all_below count order numbers moved is k d l =
     let low : get_or order k 0 < count = in_range count order moved k (omega arith) in
     subst (λ (n : ℕ). n < count) (sym at) low
 
--- the group of a number, where it is known
+-- the group with a number, if it is known
 pub walked_there : {X : Type 0} (view : X → Subtree × ℕ) (groups : List X) (i : ℕ) (group : X) → i < length groups → group ≡ get_or groups i group → walked_at (map view groups) i ≡ view group
 walked_there view groups i group within is = get_or-map view groups i group (no_subtree, 0) within ∙ sym (ap view is)
 

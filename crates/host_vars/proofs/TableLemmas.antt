@@ -1,4 +1,4 @@
--- Values under names, of variables in the order of their names.
+-- Values under names, for variables in name order.
 use Rattle.std.proofs.Common.{◌≡◌, ℕ, suc, ◌+◌, ◌<◌, ◌≤◌, Bool, true, false, not, ◌&&◌, cond, Option, Some, None, List, [], ◌∷◌, ◌++◌, length, filter, get_or, drop, take, map, sym, ap, ◌∙◌, refl, arith, inl, inr, ◌⊎◌}
 use Rattle.std.specs.Option.{option_or}
 use Rattle.std.specs.List.Sorted.{ties, IsStableBy, IsPartitionPoint, IsPartitionedBy, IsNonDecreasingBy, IsSortedBy}
@@ -17,7 +17,7 @@ use Rattle.group_tree.specs.Names.{Name, same_name}
 use Rattle.group_tree.specs.Variables.{Scalar, Variable, value_of}
 use Rattle.host_vars.proofs.ValueLemmas.{value_of-append, or_none}
 
--- an element that passes, or none does
+-- an element passes, or none does
 some_passes : {X : Type 0} (p : X → Bool) (xs : List X) → ((x : X) × (p x ≡ true)) ⊎ (filter p xs ≡ [])
 some_passes p [] = inr refl
 some_passes {X = X} p (x ∷ xs) = by_case (p x) refl (some_passes p xs)
@@ -26,7 +26,7 @@ some_passes {X = X} p (x ∷ xs) = by_case (p x) refl (some_passes p xs)
     by_case true e later = inl (x, e)
     by_case false e later = later
 
--- what passes stays in its order where all that passes ties
+-- the elements that pass keep their order if all of them are equal in the sort
 passes_stably : {X : Type 0} (p : X → Bool) (lt : X → X → Bool) (xs ys : List X) → ((x y : X) → p x ≡ true → p y ≡ ties lt x y) → IsStableBy lt xs ys → filter p ys ≡ filter p xs
 passes_stably {X = X} p lt xs ys tie stable = by_case (some_passes p xs) (some_passes p ys)
   where
@@ -76,7 +76,7 @@ module _ {X : Type 0} (view : X → Variable) (name : Name) where
       by_case false e later =
           ap (λ (b : Bool). option_or (values xs) (cond b (Some (view x).value) None)) e ∙ or_none (values xs) ∙ later
 
-  -- a stable sort by names keeps the last of each name
+  -- a stable sort by name keeps the last variable of each name
   pub sorted_values : (xs ys : List X) → IsStableBy (λ (x y : X). is_lt (name_cmp (view x).name (view y).name)) xs ys → values ys ≡ values xs
   sorted_values xs ys stable =
       of_named ys ∙ ap values (passes_stably named (λ (x y : X). is_lt (name_cmp (view x).name (view y).name)) xs ys tie stable) ∙ sym (of_named xs)
@@ -179,7 +179,7 @@ module _ {X : Type 0} (view : X → Variable) (name : Name) where
               by_case (inl e) other more = other e
               by_case (inr d) other more = d (omega (arith, low))
 
--- a search that halves finds how many entries have names up to a name
+-- a binary search finds how many entries have names up to a name
 module _ {X : Type 0} (key : X → Name) where
   abbrev before : X → X → Bool
   before x y = is_lt (name_cmp (key x) (key y))

@@ -1,4 +1,4 @@
--- Values under names, of lists one after the other and one name at a time.
+-- Values under names, for concatenated lists and for one name at a time.
 use Rattle.std.proofs.Common.{◌≡◌, Bool, true, false, cond, Option, Some, None, List, [], ◌∷◌, ◌++◌, sym, ap, ◌∙◌, refl}
 use Rattle.std.specs.Option.{option_or}
 use Rattle.std.proofs.lemmas.Slice.Eq.{bytes_eq-Decides}

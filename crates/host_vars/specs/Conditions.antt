@@ -1,4 +1,4 @@
--- A host as conditions and words see it.
+-- A host as seen by conditions and arguments.
 use Rattle.std.specs.Prelude.{Option, Some, None, option_map, option_and_then}
 use Rattle.group_tree.specs.Names.{is_among}
 use Rattle.group_tree.specs.Variables.{Scalar}
@@ -8,7 +8,7 @@ use Rattle.text_syntax.specs.Renders.{Values}
 use Rattle.host_vars.specs.declared.vars.Vars.{Vars}
 use Rattle.host_vars.specs.HostVars.{Known, known_of, field_known}
 
--- the registered result, or else the variable
+-- the registered result, otherwise the variable
 abbrev pub result_or_variable : Option Row → Option Scalar → Option Value
 result_or_variable (Some row) variable = Some Registered
 result_or_variable None variable = option_map Plain variable
@@ -22,12 +22,12 @@ environment_in known = record {
   host = known.variables.name;
 }
 
--- a registered result as a whole has no text
+-- a registered result as a whole has no string value
 abbrev pub scalar_in : Value → Option Scalar
 scalar_in Registered = None
 scalar_in (Plain scalar) = Some scalar
 
--- the host as words see it: what their holes stand for is what conditions find there
+-- the host as seen by arguments: placeholders have the values that conditions find
 abbrev pub values_in : Known → Values
 values_in known of = option_and_then scalar_in (value_at (environment_in known) of)
 

@@ -1,4 +1,4 @@
--- What is kept of variables, in the order of their names.
+-- Stored variables, in name order.
 use Rattle.std.specs.Prelude.{Bool, List, map, string_bytes}
 use Rattle.std.specs.List.Sorted.{IsSortedBy}
 use Rattle.std.specs.Ordering.{nat_cmp, is_lt, is_le}
@@ -26,7 +26,7 @@ entry_name entry = string_bytes entry.name
 abbrev pub is_before : Entry → Entry → Bool
 is_before entry other = is_lt (slice_cmp nat_cmp (entry_name entry) (entry_name other))
 
--- the entries are in the order of their names' bytes
+-- the entries are in the byte order of their names
 abbrev pub AreOrdered : List Entry → Type 0
 AreOrdered entries = IsSortedBy is_before entries
 

@@ -1,4 +1,4 @@
--- Which value a variable of a host has.
+-- The value that a variable of a host has.
 use Rattle.std.specs.Prelude.{◌≡◌, Option, List, filter, map, ◌++◌, length, IsPermutation, IsSorted}
 use Rattle.std.specs.List.{flat_map}
 use Rattle.std.specs.Ordering.{nat_cmp, ordering_then}
@@ -14,12 +14,12 @@ abbrev pub place_cmp : Place → Place → Ordering
 place_cmp place other =
     ordering_then (nat_cmp (length place.above) (length other.above)) (slice_cmp nat_cmp place.name other.name)
 
--- the groups in the order in which their variables are laid over one another
+-- the groups in the order in which their variables override one another
 pub record IsLayering (places order : List Place) : Type 0 where
   pub each_once : IsPermutation places order
   pub ordered : IsSorted place_cmp order
 
--- those that hold the host
+-- the groups that contain the host
 abbrev pub holders : Inventory → Name → List Place → List Place
 holders inventory host order = filter (λ (place : Place). holds inventory place.name host) order
 
@@ -27,12 +27,12 @@ holders inventory host order = filter (λ (place : Place). holds inventory place
 abbrev pub own_variables : Inventory → Name → List Variable
 own_variables inventory host = flat_map (λ (row : Row). row.variables) (filter (is_of host) inventory.rows)
 
--- all variables that the host has, of which the later counts: those of the groups that hold it, then its own
+-- all variables of the host, of which later ones override earlier ones: those of its groups, then its own
 abbrev pub variables_in : Inventory → Name → List Place → List Variable
 variables_in inventory host order =
     flat_map (λ (place : Place). place.variables) (holders inventory host order) ++ own_variables inventory host
 
--- what a host has: its name, the names of the groups that hold it, and a value for some names
+-- a host's name, the names of the groups that contain it, and the values of its variables
 pub record HostView : Type 0 where
   pub name : Name
   pub groups : List Name
@@ -42,7 +42,7 @@ abbrev pub host_view : Inventory → Name → List Place → HostView
 host_view inventory host order =
     record { name = host; groups = map (λ (place : Place). place.name) (holders inventory host order); variable = λ name. value_of name (variables_in inventory host order) }
 
--- the host has what the inventory gives it
+-- the host has what the inventory defines
 pub record IsHostOf (inventory : Inventory) (host : Name) (view : HostView) : Type 0 where
   pub order : List Place
   pub layering : IsLayering inventory.places order

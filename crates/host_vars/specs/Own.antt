@@ -16,7 +16,7 @@ own_below name walk = flat_map (λ (walked : Subtree × ℕ). own_in name walked
 abbrev pub hosts_shown : {A : Type 0} → List (HostRow A) → List Host
 hosts_shown {A} rows = map (λ (row : HostRow A). row.host.now) rows
 
--- the row at a place, and one without a name past the end
+-- the row at an index, or one without a name past the end
 abbrev pub listed_at : List Host → ℕ → Host
 listed_at rows place = slice_index_or rows place (record { name = []; variables = [] })
 

@@ -1,4 +1,4 @@
--- What the variables of a host say.
+-- The view of a host's variables.
 use Rattle.std.specs.Prelude.{map, string_bytes}
 use Rattle.std.specs.Arc.{arc_value}
 use Rattle.std.specs.Option.{option_or}

@@ -1,4 +1,4 @@
--- What is kept of variables.
+-- Stored variables.
 use Rattle.std.specs.Prelude.{ℕ, Option, None, List, [], ◌∷◌, map, slice_index_or, string_bytes}
 use Rattle.std.specs.Option.{option_or}
 use Rattle.std.specs.Arc.{arc_value}
@@ -34,11 +34,11 @@ group_layer group = record { name = group.name; value = λ name. model.value_of 
 abbrev pub no_layer : LayerView
 no_layer = record { name = []; value = λ name. None }
 
--- the layer at a place, and one without a name past the end
+-- the layer at an index, or one without a name past the end
 abbrev pub layer_at : List LayerView → ℕ → LayerView
 layer_at layers place = slice_index_or layers place no_layer
 
--- the value of the last layer that has the name
+-- the value in the last layer that has the name
 abbrev pub last_value : Name → List LayerView → Option model.Scalar
 last_value name [] = None
 last_value name (layer ∷ later) = option_or (last_value name later) (layer.value name)

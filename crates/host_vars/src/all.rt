@@ -23,7 +23,7 @@ use group_tree::{HostId, Tree};
 use std::alloc::{AllocError, Allocator, Global};
 use std::sync::Arc;
 
-/// What is made once for all hosts: the groups in their order and the rows, and of each host the places of its own.
+/// What is built once for all hosts: the groups in order, the rows, and the indexes of each host's own rows.
 #[derive(Drop)]
 struct Shared<'s, A: Allocator> {
     layers: &'s [Arc<Layer>],
@@ -32,7 +32,8 @@ struct Shared<'s, A: Allocator> {
     own: &'s NumberLists,
 }
 
-/// One host, from what is made for all. With `before` come the hosts before it, and which of them the same groups are likely to hold.
+/// Builds one host from the shared parts. `before` has the earlier hosts, and the index of one that is probably in
+/// the same groups.
 fn share_host<A: Allocator>(
     alloc: Global,
     shared: &Shared<'_, A>,
@@ -58,8 +59,8 @@ fn share_host<A: Allocator>(
     })
 }
 
-/// Each host of the fleet with its groups and variables, in the order of the names, as `layered_variables` gives it.
-/// The variables of a group are kept once, and shared by the hosts that it holds. It fails for want of memory alone.
+/// Returns each host of the fleet with its groups and variables, in name order, as `layered_variables` does. The
+/// variables of a group are stored once and shared by its hosts. Fails only if an allocation fails.
 pub fn all_layered_variables<A: Allocator>(
     alloc: Global,
     tree: &Tree<A>,

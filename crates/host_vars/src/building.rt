@@ -18,8 +18,8 @@ use play_model::Results;
 use std::alloc::{AllocError, Allocator, Global};
 use std::sync::Arc;
 
-/// The host with its groups and variables: its own win over those of the groups that hold it, and of these the
-/// deepest group's, among groups of one depth that of the last name. It fails for want of memory alone.
+/// Returns the host with its groups and variables. Its own variables override those of its groups. Deeper groups
+/// override others; at the same depth, the last group by name wins. Fails only if an allocation fails.
 pub fn layered<A: Allocator>(
     alloc: Global,
     tree: &Tree<A>,
@@ -39,8 +39,8 @@ pub fn layered<A: Allocator>(
     })
 }
 
-/// Each host of the fleet, in the order of the names, as `layered` gives it. The variables of a group are kept once,
-/// and shared by the hosts that it holds. It fails for want of memory alone.
+/// Returns each host of the fleet, in name order, as `layered` does. The variables of a group are stored once and
+/// shared by its hosts. Fails only if an allocation fails.
 pub fn layered_all<A: Allocator>(
     alloc: Global,
     tree: &Tree<A>,
@@ -66,7 +66,7 @@ fn without_results(alloc: Global, hosts: &[Arc<HostVariables>]) -> Result<Vec<Va
     Ok(all)
 }
 
-/// The host with its variables, which are shared, and no result.
+/// Returns the host with its variables, which are shared, and no result.
 fn without_result(alloc: Global, host: &Arc<HostVariables>) -> Result<Vars, AllocError>
     ensures variables { IfOk result (λ vars. variables_of vars ≡ shown (arc_value host.now)) }
     ensures results { IfOk result HasNoResult }

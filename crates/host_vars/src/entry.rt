@@ -1,4 +1,4 @@
-//! A variable as a table keeps it.
+//! A variable as stored in a table.
 ghost use Rattle.std.specs.Prelude.{◌≡◌, ◌++◌, IfOk, OnOk};
 ghost use Rattle.group_tree.specs.Scalars.{lent_scalar};
 ghost use Rattle.host_vars.specs.Entries.{held_scalar, entry_variable, entry_variables};
@@ -30,7 +30,7 @@ fn hold(alloc: Global, value: Scalar<'_>) -> Result<Held, AllocError>
     }
 }
 
-/// The value, lent.
+/// Returns the value, borrowed.
 pub(crate) fn lend(held: &Held) -> Scalar<'_>
     ensures { lent_scalar result ≡ held_scalar held.now }
 {
@@ -49,7 +49,7 @@ fn entry_of<A: Allocator>(alloc: Global, variable: &Variable<A>) -> Result<Entry
     Ok(Entry { name, value })
 }
 
-/// Adds copies of the variables at the end.
+/// Appends copies of the variables.
 pub(crate) fn add_entries<A: Allocator>(
     alloc: Global,
     variables: &[Variable<A>],

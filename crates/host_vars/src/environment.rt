@@ -1,4 +1,4 @@
-//! A host as conditions see it.
+//! A host as seen by conditions.
 use crate::field::field_value;
 use crate::vars::Vars;
 use cond::{Env, Value};

@@ -1,4 +1,4 @@
-//! Which of the groups, in their order, hold each host.
+//! The groups, in order, that contain each host.
 ghost use Rattle.std.specs.Prelude.{◌≡◌, ◌<◌, IfOk, All, map, length};
 ghost use Rattle.fleet_index.specs.NumberLists.{list_at, IsRising};
 ghost use Rattle.domains.specs.Ids.{host_numbers};
@@ -18,7 +18,7 @@ fn numbers_of(alloc: Global, hosts: &[HostId]) -> Result<Vec<usize>, AllocError>
     Ok(numbers)
 }
 
-/// The hosts of each group, the groups in this order.
+/// Returns the hosts of each group, with the groups in this order.
 pub(crate) fn list_members_by(
     alloc: Global,
     fleet: &Fleet,

@@ -1,4 +1,4 @@
-//! What a host has: its name, the groups that hold it, and its variables.
+//! A host's name, its groups and its variables.
 ghost use Rattle.std.specs.Prelude.{◌≡◌, option_map};
 ghost use Rattle.std.specs.List.{list_any};
 ghost use Rattle.group_tree.specs.Names.{is_among, same_name};
@@ -11,8 +11,8 @@ use crate::table::Table;
 use group_tree::Scalar;
 use std::sync::Arc;
 
-/// A host with its variables. Those of a group are kept once for all hosts that it holds, and hosts of the same groups
-/// share the list of these.
+/// A host with its variables. Those of a group are stored once for all its hosts, and hosts of the same groups share
+/// the list of groups.
 #[derive(Drop)]
 pub struct HostVariables {
     pub(crate) name: String,
@@ -40,14 +40,14 @@ fn names_group(layers: &[Arc<Layer>], group: &str) -> bool
 }
 
 impl HostVariables {
-    /// The host's own name.
+    /// Returns the host's own name.
     pub fn name(&self) -> &str
         ensures { result.now ≡ (shown self.now).name }
     {
         self.name.as_str()
     }
 
-    /// The value of the variable of this name.
+    /// Returns the value of the variable with this name.
     pub fn value(&self, name: &str) -> Option<Scalar<'_>>
         ensures { option_map lent_scalar result ≡ (shown self.now).variable name.now }
     {
@@ -57,7 +57,7 @@ impl HostVariables {
         }
     }
 
-    /// Whether a group of this name holds the host.
+    /// Returns whether a group with this name contains the host.
     pub fn in_group(&self, group: &str) -> bool
         ensures { result ≡ is_among group.now (shown self.now).groups }
     {

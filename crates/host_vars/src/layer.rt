@@ -1,4 +1,4 @@
-//! Groups that hold a host, with their variables.
+//! The groups that contain a host, with their variables.
 ghost use Rattle.std.specs.Prelude.{◌≡◌, ◌<◌, All, IfOk, filter, map, length};
 ghost use Rattle.fleet_index.specs.NumberLists.{has_number, list_at};
 ghost use Rattle.domains.specs.Walked.{walked_groups};
@@ -30,7 +30,7 @@ fn layer_of<A: Allocator>(alloc: Global, group: &Group<A>) -> Result<Layer, Allo
     Ok(Layer { name, table })
 }
 
-/// The groups that hold the host, in this order.
+/// Returns the groups that contain the host, in this order.
 pub(crate) fn list_layers<A: Allocator>(
     alloc: Global,
     groups: &[WalkedGroup<'_, A>],
@@ -54,7 +54,7 @@ pub(crate) fn list_layers<A: Allocator>(
     Ok(Arc::new(alloc, layers)?)
 }
 
-/// The groups in this order, each with its variables.
+/// Returns the groups in this order, each with its variables.
 pub(crate) fn list_all_layers<A: Allocator>(
     alloc: Global,
     groups: &[WalkedGroup<'_, A>],
@@ -72,7 +72,7 @@ pub(crate) fn list_all_layers<A: Allocator>(
     Ok(layers)
 }
 
-/// The layers at these places, shared with the list.
+/// Returns the layers at these indexes, shared with the list.
 pub(crate) fn share_layers(
     alloc: Global,
     layers: &[Arc<Layer>],

@@ -13,8 +13,8 @@ use domains::{Fleet, list_walk};
 use group_tree::{HostId, Tree};
 use std::alloc::{AllocError, Allocator, Global};
 
-/// The host with its groups and variables: its own win over those of the groups that hold it, and of these the
-/// deepest group's, among groups of one depth that of the last name. It fails for want of memory alone.
+/// Returns the host with its groups and variables. Its own variables override those of its groups. Deeper groups
+/// override others; at the same depth, the last group by name wins. Fails only if an allocation fails.
 pub fn layered_variables<A: Allocator>(
     alloc: Global,
     tree: &Tree<A>,

@@ -1,4 +1,4 @@
-//! A host's variables and results as conditions and words see them.
+//! A host's variables and results as conditions and arguments see them.
 #![tactic(auto)]
 
 mod all;

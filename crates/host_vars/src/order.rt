@@ -1,4 +1,4 @@
-//! The groups of a walk in the order in which their variables are laid over one another.
+//! The order in which the variables of groups override one another.
 ghost use Rattle.std.specs.Prelude.{◌≡◌, ℕ, List, ◌<◌, IfOk, IsPermutation, All, length, map};
 ghost use Rattle.std.specs.List.{range_with_len};
 ghost use Rattle.domains.specs.Walked.{walked_groups};
@@ -7,7 +7,7 @@ ghost use Rattle.host_vars.specs.Walked.{walked_at, IsInOrder};
 use domains::WalkedGroup;
 use std::alloc::{AllocError, Allocator, Global};
 
-/// Of each group how many stand above it, its name and its number.
+/// Returns the depth, name and number of each group.
 fn list_keys<'a, A: Allocator>(
     alloc: Global,
     groups: &[WalkedGroup<'a, A>],
@@ -24,7 +24,7 @@ fn list_keys<'a, A: Allocator>(
     Ok(keys)
 }
 
-/// The numbers of the groups by how many stand above, then by their names.
+/// Returns the numbers of the groups, sorted by depth and then by name.
 pub(crate) fn list_order<A: Allocator>(
     alloc: Global,
     groups: &[WalkedGroup<'_, A>],

@@ -13,7 +13,7 @@ use domains::{HostRow, WalkedGroup};
 use group_tree::Host;
 use std::alloc::{AllocError, Allocator, Global};
 
-/// Adds the variables of the host in the list, where it stands there.
+/// Adds the variables of the host in the list, if it is there.
 fn add_own<A: Allocator>(
     alloc: Global,
     hosts: &[Host<A>],
@@ -31,7 +31,7 @@ fn add_own<A: Allocator>(
     Ok(())
 }
 
-/// The host's variables at all its places, of which the later count.
+/// Returns the host's variables from all groups that list it; later ones override earlier ones.
 pub(crate) fn own_table<A: Allocator>(
     alloc: Global,
     groups: &[WalkedGroup<'_, A>],
@@ -48,7 +48,7 @@ pub(crate) fn own_table<A: Allocator>(
     Table::of(entries)
 }
 
-/// The variables of the rows at these places, of which the later count.
+/// Returns the variables of the rows at these indexes; later ones override earlier ones.
 pub(crate) fn table_of_rows<A: Allocator>(
     alloc: Global,
     rows: &[HostRow<'_, A>],

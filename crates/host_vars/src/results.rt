@@ -11,8 +11,8 @@ use std::alloc::{AllocError, Global};
 use std::sync::Arc;
 
 impl Vars {
-    /// Makes a place for a result under the name, so that registering takes no memory. No result is changed, and where
-    /// memory is refused, no place is made or lost.
+    /// Creates a slot for a result under the name, so that registering does not allocate. No result changes. If an
+    /// allocation fails, no slot is created or lost.
     pub fn reserve(&mut self, alloc: Global, name: &str) -> Result<(), AllocError>
         ensures place { OnOk result ((other : Name) → has_place_in self.new other
             ≡ (same_name name.now other || has_place_in self.old other)) }
@@ -24,7 +24,7 @@ impl Vars {
         self.results.reserve(alloc, name)
     }
 
-    /// Registers a result under a name that has a place, in place of one that stood there. It takes no memory.
+    /// Registers a result under a name that has a slot, and replaces an earlier one. Does not allocate.
     pub fn register(&mut self, name: &str, registered: Registered)
         requires { IsTrue (has_place_in self.old name.now) }
         ensures place { (other : Name) → has_place_in self.new other ≡ has_place_in self.old other }
@@ -36,7 +36,8 @@ impl Vars {
         self.results.register(name, registered);
     }
 
-    /// The same host: its variables, which are shared and not copied, a copy of each result, and what it owes. It fails for want of memory alone.
+    /// Copies the host: its variables, which are shared, a copy of each result, and whether it owes handlers. Fails
+    /// only if an allocation fails.
     pub fn copy(&self, alloc: Global) -> Result<Vars, AllocError>
         ensures { IfOk result (λ copy. IsSameHost copy self.now) }
     {
@@ -47,8 +48,8 @@ impl Vars {
         })
     }
 
-    /// The host as it begins a play with these registers: its variables, which are shared and not copied, a copy of each result, and a
-    /// place for each register; and it owes what it owed. It fails for want of memory alone.
+    /// Returns the host at the start of a play with these registers. It shares the variables, and has a copy of each
+    /// result and a slot for each register. It owes what it owed. Fails only if an allocation fails.
     pub fn begin_play(&self, alloc: Global, registers: &Arc<Registers>) -> Result<Vars, AllocError>
         ensures { IfOk result (λ begun. BeginsPlay (arc_value registers.now) begun self.now) }
     {

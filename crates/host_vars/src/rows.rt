@@ -1,4 +1,4 @@
-//! The rows of hosts as their groups list them, by the numbers of their hosts.
+//! The rows of hosts as listed by their groups, by the numbers of their hosts.
 ghost use Rattle.std.specs.Prelude.{◌≡◌, ℕ, ◌<◌, IfOk, All, length};
 ghost use Rattle.fleet_index.specs.NumberLists.{list_at, has_number, IsRising};
 ghost use Rattle.group_tree.specs.Names.{same_name};
@@ -9,7 +9,7 @@ use domains::{Fleet, HostRow};
 use fleet_index::NumberLists;
 use std::alloc::{AllocError, Allocator, Global};
 
-/// The number of the host of this name, alone in a list, and none where the fleet has no such host.
+/// Returns a list with the number of the host with this name, or an empty list if the fleet has no such host.
 fn number_row(alloc: Global, fleet: &Fleet, name: &str) -> Result<Vec<usize>, AllocError>
     ensures rise { IfOk result (λ numbers. IsRising (length fleet.now.hosts) numbers.items) }
     ensures own { IfOk result (λ numbers. (host : ℕ) → host < length fleet.now.hosts
@@ -25,7 +25,7 @@ fn number_row(alloc: Global, fleet: &Fleet, name: &str) -> Result<Vec<usize>, Al
     }
 }
 
-/// For each row its host's number.
+/// Returns, for each row, the number of its host.
 pub(crate) fn number_rows<A: Allocator>(
     alloc: Global,
     fleet: &Fleet,

@@ -11,8 +11,8 @@ use fleet_index::NumberLists;
 use std::alloc::{AllocError, Global};
 use std::sync::Arc;
 
-/// For each group the last host yet that it is the last to hold. Where the next such host stands in one place, as most do, the same groups
-/// hold both.
+/// For each group, the latest host whose last group it is. If the next such host is listed in a single group, as most
+/// are, both are in the same groups.
 #[derive(Drop)]
 pub(crate) struct LastHosts {
     hosts: Vec<Option<usize>>,
@@ -27,14 +27,14 @@ impl LastHosts {
         Ok(LastHosts { hosts })
     }
 
-    /// The last host yet whose last group is that of this list.
+    /// Returns the latest host whose last group is the last of this list.
     pub(crate) fn like(&self, groups: &[usize]) -> Option<usize> {
         let last = groups.last()?;
         let host = self.hosts.get(*last)?;
         *host
     }
 
-    /// Notes that these groups hold the host.
+    /// Records that these groups contain the host.
     pub(crate) fn note(&mut self, groups: &[usize], host: usize) {
         if let Some(last) = groups.last() {
             if let Some(place) = self.hosts.get_mut(*last) {
@@ -44,7 +44,7 @@ impl LastHosts {
     }
 }
 
-/// The earlier host, where its list is this one.
+/// Returns the earlier host, if its list is the same.
 fn with_same_list<'h>(
     hosts: &'h [Arc<HostVariables>],
     lists: &NumberLists,
@@ -64,7 +64,7 @@ fn with_same_list<'h>(
     }
 }
 
-/// The layers at these places: those of the earlier host where the same groups hold it, and a new list otherwise.
+/// Returns the layers at these indexes: those of the earlier host if it is in the same groups, otherwise a new list.
 pub(crate) fn layers_at(
     alloc: Global,
     layers: &[Arc<Layer>],

@@ -1,4 +1,4 @@
-//! Variables in the order of their names.
+//! Variables in name order.
 ghost use Rattle.std.specs.Prelude.{◌≡◌, ◌≤◌, true, false, option_map, IfOk, length};
 ghost use Rattle.std.specs.List.Sorted.{IsPartitionPoint};
 ghost use Rattle.std.proofs.Props.{props};
@@ -11,14 +11,14 @@ use crate::entry::{Entry, lend};
 use group_tree::Scalar;
 use std::alloc::AllocError;
 
-/// Variables in the order of their names; of two under one name the later counts.
+/// Variables in name order; if two have the same name, the later one counts.
 #[derive(Drop)]
 pub(crate) struct Table {
     entries: Vec<Entry>,
     ghost ordered: { AreOrdered entries.items } by { Prim.hlevel props },
 }
 
-/// How many of the entries have names up to this one.
+/// Returns how many of the entries have names up to this one.
 fn count_up_to(entries: &[Entry], name: &str) -> usize
     requires { AreOrdered entries.now }
     ensures within { result ≤ length entries.now }
@@ -28,7 +28,7 @@ fn count_up_to(entries: &[Entry], name: &str) -> usize
 }
 
 impl Table {
-    /// The table of these variables.
+    /// Creates the table of these variables.
     pub(crate) fn of(entries: Vec<Entry>) -> Result<Table, AllocError>
         ensures { IfOk result (λ table. (name : Name) → value_of name (entry_variables table.entries.items)
             ≡ value_of name (entry_variables entries.items)) }

@@ -1,4 +1,4 @@
-//! Words rendered for a host.
+//! Arguments rendered for a host.
 ghost use Rattle.std.specs.Prelude.{IfOk, IfErr, string_bytes};
 ghost use Rattle.text_syntax.specs.Faults.{IsRendering, IsFaultOf};
 ghost use Rattle.host_vars.specs.Conditions.{values_of};
@@ -28,8 +28,8 @@ impl Values for Vars {
 }
 
 impl Vars {
-    /// The word with the values in the places of its holes; of several faults the one that comes first in
-    /// `RenderFault` is told. It takes memory once, for the whole text.
+    /// Returns the argument with its placeholders replaced by their values. If several errors apply, the first one in
+    /// `RenderFault` is returned. It allocates once, for the complete string.
     pub fn render<'w, A: Allocator>(
         &self,
         alloc: A,

@@ -1,4 +1,4 @@
--- What begins in what is left of a word.
+-- What starts in the rest of a word.
 use Rattle.std.proofs.Common.{◌≡◌, ℕ, ◌+◌, ◌<◌, Bool, true, false, ◌||◌, List, ◌∷◌, length, drop, drop-cons, add-one, get_or, sym, ap, ◌∙◌}
 use Rattle.group_tree.specs.Names.{Name}
 use Rattle.inventory_lints.specs.Holes.{has_behind}
@@ -11,10 +11,10 @@ module _ (begins : Name → Bool) (bytes : List ℕ) (place : ℕ) (within : pla
   by_front =
       ap (has_behind begins) parts ∙ ap (λ (l : List ℕ). begins l || has_behind begins (drop (place + 1) bytes)) (sym parts)
 
-  -- nothing begins here
+  -- nothing starts here
   pub found_behind : begins (drop place bytes) ≡ false → has_behind begins (drop (place + 1) bytes) ≡ has_behind begins (drop place bytes)
   found_behind none = sym (by_front ∙ ap (λ b. b || has_behind begins (drop (place + 1) bytes)) none)
 
-  -- something does
+  -- something starts here
   pub found_here : begins (drop place bytes) ≡ true → has_behind begins (drop place bytes) ≡ true
   found_here opens = by_front ∙ ap (λ b. b || has_behind begins (drop (place + 1) bytes)) opens

@@ -1,4 +1,4 @@
--- What is noted of the hosts of a walk is what is of an inventory's rows.
+-- The warnings about the hosts of a traversal are those about an inventory's rows.
 use Rattle.std.proofs.Common.{◌≡◌, ℕ, List, [], ◌∷◌, ◌++◌, map, flat_map, refl, sym, ap, ◌∙◌}
 use Rattle.std.proofs.lemmas.Grind.{flat_map-append}
 use Rattle.group_tree.specs.Places.{Inventory, Place, Row}

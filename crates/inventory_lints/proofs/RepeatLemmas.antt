@@ -1,4 +1,4 @@
--- Notes on the paths of keys.
+-- Warnings about the paths of keys.
 use Rattle.std.proofs.Common.{◌≡◌, ℕ, Vec, List, [], ◌∷◌, map, refl, ap}
 use Rattle.inventory_lints.specs.Inside.{noted_paths}
 use Rattle.lint_rules.specs.Notes.{Note, repeated_key}

@@ -1,4 +1,4 @@
--- What is noted of an inventory.
+-- The warnings about an inventory.
 use Rattle.std.specs.Prelude.{List, ◌++◌}
 use Rattle.group_tree.specs.Places.{Inventory}
 use Rattle.domains.specs.FleetViews.{FleetView}
@@ -6,6 +6,6 @@ use Rattle.lint_rules.specs.Notes.{Note}
 use Rattle.inventory_lints.specs.Groups.{groups_notes}
 use Rattle.inventory_lints.specs.HostKeys.{rows_notes}
 
--- the notes on the groups, and after them those on the variables of hosts
+-- the warnings about the groups, followed by those about the variables of hosts
 abbrev pub fleet_notes : Inventory → FleetView → List Note
 fleet_notes inventory fleet = groups_notes inventory fleet ++ rows_notes inventory.rows

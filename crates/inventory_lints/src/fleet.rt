@@ -1,4 +1,4 @@
-//! The notes on an inventory.
+//! The warnings about an inventory.
 ghost use Rattle.std.specs.Prelude.{◌≡◌, ◌++◌, IfOk};
 ghost use Rattle.inventory_lints.specs.Fleet.{fleet_notes};
 ghost use Rattle.inventory_lints.specs.Inside.{noted_repeats};
@@ -11,7 +11,8 @@ use group_tree::Tree;
 use lint_rules::Notes;
 use std::alloc::{AllocError, Allocator, Global};
 
-/// Lists the notes on these keys, and after them those on the groups of a tree and on its hosts' variables. Fails only if an allocation fails.
+/// Returns the warnings about these keys, followed by those about the groups of a tree and about its hosts' variables. Fails only if an
+/// allocation fails.
 pub fn list_fleet_notes<'a, A: Allocator>(
     alloc: Global,
     repeats: &'a Repeats,

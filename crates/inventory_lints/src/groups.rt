@@ -1,4 +1,4 @@
-//! The notes on groups and their variables.
+//! The warnings about groups and their variables.
 ghost use Rattle.std.specs.Prelude.{◌≡◌, ◌<◌, ◌++◌, OnOk, length, option_map};
 ghost use Rattle.domains.specs.Starts.{place_at};
 ghost use Rattle.inventory_lints.specs.Groups as model;
@@ -12,7 +12,7 @@ use group_tree::{GroupId, Tree, Variable};
 use lint_rules::{Note, Notes};
 use std::alloc::{AllocError, Allocator};
 
-/// What is noted of a group with a limit.
+/// Returns the warning about a group with a limit, if there is one.
 fn limited_note(name: &str, limit: u16, members: usize) -> Option<Note<'_>>
     ensures { option_map seen result ≡ model.limited_note name.now limit members }
 {
@@ -36,7 +36,7 @@ fn limited_note(name: &str, limit: u16, members: usize) -> Option<Note<'_>>
     }
 }
 
-/// What is noted of a group's limit.
+/// Returns the warning about a group's limit, if there is one.
 fn limit_note(fleet: &Fleet, group: GroupId) -> Option<Note<'_>>
     requires { group.index < length fleet.now.groups }
     ensures { option_map seen result ≡ model.limit_note_of fleet.now group.index }
@@ -47,7 +47,7 @@ fn limit_note(fleet: &Fleet, group: GroupId) -> Option<Note<'_>>
     }
 }
 
-/// What is noted of the name of a group's variable.
+/// Returns the warning about the name of a group's variable, if there is one.
 fn variable_note<'a, A: Allocator>(group: &'a str, variable: &'a Variable<A>) -> Option<Note<'a>>
     ensures { option_map seen result ≡ model.variable_note group.now variable.now }
 {
@@ -62,7 +62,7 @@ fn variable_note<'a, A: Allocator>(group: &'a str, variable: &'a Variable<A>) ->
     }
 }
 
-/// What is noted of its value.
+/// Returns the warning about its value, if there is one.
 fn value_note<'a, A: Allocator>(group: &'a str, variable: &'a Variable<A>) -> Option<Note<'a>>
     ensures { option_map seen result ≡ model.value_note group.now variable.now }
 {
@@ -76,7 +76,7 @@ fn value_note<'a, A: Allocator>(group: &'a str, variable: &'a Variable<A>) -> Op
     }
 }
 
-/// Adds what is noted of a group's variable.
+/// Adds the warnings about a group's variable.
 fn warn_variable<'a, A: Allocator>(
     notes: &mut Notes<'a>,
     group: &'a str,
@@ -89,7 +89,7 @@ fn warn_variable<'a, A: Allocator>(
     Ok(())
 }
 
-/// Adds what is noted of all of them.
+/// Adds the warnings about all of them.
 fn warn_variables<'a, A: Allocator>(
     notes: &mut Notes<'a>,
     group: &'a str,
@@ -103,7 +103,7 @@ fn warn_variables<'a, A: Allocator>(
     Ok(())
 }
 
-/// The variables of the group at this place in preorder.
+/// Returns the variables of the group at this index in preorder.
 fn variables_at<A: Allocator>(tree: &Tree<A>, index: usize) -> &[Variable<A>]
     ensures { result.now ≡ (place_at tree.now.places index).variables }
 {
@@ -113,7 +113,7 @@ fn variables_at<A: Allocator>(tree: &Tree<A>, index: usize) -> &[Variable<A>]
     }
 }
 
-/// Adds what is noted of the groups of a tree and its fleet, in preorder. It fails for want of memory alone.
+/// Adds the warnings about the groups of a tree and its fleet, in preorder. Fails only if an allocation fails.
 pub(crate) fn warn_groups<'a, A: Allocator>(
     notes: &mut Notes<'a>,
     tree: &'a Tree<A>,

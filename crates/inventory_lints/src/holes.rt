@@ -1,4 +1,4 @@
-//! Whether a hole stands in a text.
+//! Whether a string has a placeholder.
 ghost use Rattle.std.specs.Prelude.{◌≡◌};
 ghost use Rattle.group_tree.specs.Scalars.{lent_scalar};
 ghost use Rattle.inventory_lints.specs.Holes as model;
@@ -8,7 +8,7 @@ use crate::bytes::bytes_behind;
 use group_tree::Scalar;
 use text_syntax::starts_with_pair;
 
-/// Whether `{{`, `{%` or `{#` is in front.
+/// Reports whether the bytes start with `{{`, `{%` or `{#`.
 fn is_opening(bytes: &[u8]) -> bool
     ensures { result ≡ words.is_opening bytes.now }
 {
@@ -17,7 +17,7 @@ fn is_opening(bytes: &[u8]) -> bool
         || starts_with_pair(bytes, b'{', b'#')
 }
 
-/// Whether a hole begins somewhere in the bytes.
+/// Reports whether a placeholder starts anywhere in the bytes.
 fn has_opening(bytes: &[u8]) -> bool
     ensures { result ≡ model.has_opening bytes.now }
 {
@@ -29,14 +29,14 @@ fn has_opening(bytes: &[u8]) -> bool
     false
 }
 
-/// Whether the word is given to a program as it stands.
+/// Reports whether the word is passed to a program as written.
 pub fn is_literal(word: &str) -> bool
     ensures { result ≡ model.is_literal word.now }
 {
     !has_opening(word.as_bytes())
 }
 
-/// Whether the value of a variable has a hole.
+/// Reports whether the value of a variable has a placeholder.
 pub(crate) fn has_hole(value: Scalar<'_>) -> bool
     ensures { result ≡ model.has_hole (lent_scalar value.entry) }
 {

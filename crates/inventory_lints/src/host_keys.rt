@@ -1,4 +1,4 @@
-//! The notes on the variables of hosts.
+//! The warnings about the variables of hosts.
 ghost use Rattle.std.specs.Prelude.{◌≡◌, ◌++◌, OnOk, flat_map, option_map};
 ghost use Rattle.inventory_lints.specs.HostKeys as model;
 ghost use Rattle.inventory_lints.specs.HostKeys.{group_own_notes, hosts_own_notes, own_notes, own_variable_notes, rows_notes};
@@ -11,7 +11,7 @@ use group_tree::{Host, Tree, Variable};
 use lint_rules::{Note, Notes};
 use std::alloc::{AllocError, Allocator, Global};
 
-/// What is noted of a variable that the group gives the host.
+/// Returns the warning about a variable that the group gives the host, if there is one.
 fn own_note<'a, A: Allocator>(
     group: &'a str,
     host: &'a str,
@@ -27,7 +27,7 @@ fn own_note<'a, A: Allocator>(
     }
 }
 
-/// What is noted of its value.
+/// Returns the warning about its value, if there is one.
 fn own_value_note<'a, A: Allocator>(
     group: &'a str,
     host: &'a str,
@@ -46,7 +46,7 @@ fn own_value_note<'a, A: Allocator>(
     }
 }
 
-/// Adds what is noted of such a variable.
+/// Adds the warnings about such a variable.
 fn warn_own_variable<'a, A: Allocator>(
     notes: &mut Notes<'a>,
     group: &'a str,
@@ -60,7 +60,7 @@ fn warn_own_variable<'a, A: Allocator>(
     Ok(())
 }
 
-/// Adds what is noted of a host's variables.
+/// Adds the warnings about a host's variables.
 fn warn_own<'a, A: Allocator>(
     notes: &mut Notes<'a>,
     group: &'a str,
@@ -75,7 +75,7 @@ fn warn_own<'a, A: Allocator>(
     Ok(())
 }
 
-/// Adds what is noted of the hosts that a group lists itself.
+/// Adds the warnings about the hosts that a group lists itself.
 fn warn_hosts<'a, A: Allocator>(
     notes: &mut Notes<'a>,
     group: &'a str,
@@ -101,7 +101,7 @@ fn warn_walk<'a, A: Allocator>(
     Ok(())
 }
 
-/// Adds what is noted of the variables of all hosts, group by group in preorder. It fails for want of memory alone.
+/// Adds the warnings about the variables of all hosts, group by group in preorder. Fails only if an allocation fails.
 pub(crate) fn warn_host_keys<'a, A: Allocator>(
     alloc: Global,
     notes: &mut Notes<'a>,

@@ -1,4 +1,4 @@
-//! The notes on the groups of an inventory and their hosts.
+//! The warnings about the groups of an inventory and their hosts.
 #![tactic(auto)]
 
 mod bytes;

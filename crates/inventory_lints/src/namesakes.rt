@@ -4,7 +4,7 @@ ghost use Rattle.inventory_lints.specs.Namesakes as model;
 
 use domains::Fleet;
 
-/// Whether a group has the name.
+/// Reports whether a group has the name.
 #[tactic(auto, using(crate::proofs::GroupLemmas::some_index))]
 pub fn is_group(fleet: &Fleet, name: &str) -> bool
     ensures { result ≡ model.is_group fleet.now.groups name.now }

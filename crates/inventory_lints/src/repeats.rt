@@ -1,4 +1,4 @@
-//! The notes on keys that stand more than once in one object.
+//! The warnings about keys that appear more than once in one object.
 ghost use Rattle.std.specs.Prelude.{◌≡◌, ◌++◌, IfOk, OnOk, map};
 ghost use Rattle.std.specs.Option.{option_map};
 ghost use Rattle.inventory_lints.specs.Inside.{noted_paths, noted_repeats};
@@ -8,14 +8,14 @@ use duplicate_keys::list_repeated;
 use lint_rules::{Document, Note, Notes};
 use std::alloc::{AllocError, Global};
 
-/// The texts of an inventory and, where there is one, of a playbook, as they were given.
+/// The inventory file and, if there is one, the playbook file, as given.
 #[derive(Clone, Copy, Debug)]
 pub struct Texts<'t> {
     pub inventory: &'t [u8],
     pub playbook: Option<&'t [u8]>,
 }
 
-/// The paths of keys that stand more than once in one object of these texts.
+/// The paths of keys that appear more than once in one object of these files.
 #[derive(Drop)]
 pub struct Repeats {
     pub inventory: Vec<Vec<u8>>,
@@ -32,7 +32,7 @@ fn list_if(alloc: Global, text: Option<&[u8]>) -> Result<Vec<Vec<u8>>, AllocErro
 }
 
 impl Repeats {
-    /// It fails for want of memory alone.
+    /// Finds the repeated keys of these files. Fails only if an allocation fails.
     pub fn of(alloc: Global, texts: Texts<'_>) -> Result<Repeats, AllocError>
         ensures { IfOk result (λ repeats. noted_repeats repeats ≡ repeats_given texts.entry) }
     {
@@ -59,7 +59,7 @@ fn warn_paths<'a>(
     Ok(())
 }
 
-/// Adds what is noted of these keys.
+/// Adds the warnings about these keys.
 pub(crate) fn warn_repeats<'a>(
     notes: &mut Notes<'a>,
     repeats: &'a Repeats,

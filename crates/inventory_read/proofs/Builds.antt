@@ -1,4 +1,4 @@
--- A group that takes its children one by one, against the document's list.
+-- A group that receives its children one by one, compared with the document's list.
 use Rattle.std.proofs.Common.{◌≡◌, Bool, List, [], ◌∷◌, ◌++◌, map, sym, ap, ◌∙◌, append_assoc, refl}
 use Rattle.std.specs.List.{flat_map}
 use Rattle.std.proofs.lemmas.List.{map-append, append-nil}
@@ -33,7 +33,7 @@ rows-under name (group ∷ groups) =
 same_inventory : (a b : List Place) (x y : List Row) → a ≡ b → x ≡ y → (let first : Inventory = record { places = a; rows = x } in first) ≡ record { places = b; rows = y }
 same_inventory a b x y e f = cc
 
--- where groups stand changes nothing of what they say
+-- the path of a group does not affect its contents
 places-standing : (past_all : Bool) (groups : List Listed) → map place_of (map (standing past_all) groups) ≡ map place_of groups
 places-standing past_all [] = refl
 places-standing past_all (group ∷ groups) = ap (λ rest. place_of group ∷ rest) (places-standing past_all groups)
@@ -46,7 +46,7 @@ pub inventory-standing : (past_all : Bool) (groups : List Listed) → inventory_
 inventory-standing past_all groups = same_inventory _ _ _ _ (places-standing past_all groups) (rows-standing past_all groups)
 
 module _ (group child : Subtree) (listed more : List Listed) (is : inventory_of child ≡ inventory_from listed) where
-  -- what further groups of the document give below the group
+  -- what further groups of the document add below the group
   abbrev places_below : List Listed → List Place
   places_below groups = map place_of (map (under group.name) groups)
 
@@ -83,18 +83,18 @@ module _ (group child : Subtree) (listed more : List Listed) (is : inventory_of 
       ∙ append_assoc (subtrees.rows_of group) (rows_below listed) (rows_below more)
       ∙ ap (λ last. subtrees.rows_of group ++ last) (sym both)
 
--- one child more
+-- one more child
 pub reach-with_child : (group child after : Subtree) (listed more : List Listed) → after ≡ with_child group child
     → inventory_of child ≡ inventory_from listed → reach after more ≡ reach group (listed ++ more)
 reach-with_child group child after listed more e is =
     ap (λ g. reach g more) e
     ∙ same_inventory _ _ _ _ (places-reach group child listed more is) (rows-reach group child listed more is)
 
--- nothing more
+-- no more children
 pub reach-none : (group : Subtree) → reach group [] ≡ inventory_of group
 reach-none group = same_inventory _ _ _ _ (append-nil (places_of group)) (append-nil (subtrees.rows_of group))
 
--- a group without children, and what is to stand below it
+-- a group without children, and what is to be below it
 pub reach-own : (group : Subtree) (name : Name) (body : Data) (below : List Listed)
     → group ≡ record { name = name; limit = limit_in body; variables = variables_in body; hosts = hosts_in body; below = side_by_side [] }
     → reach group below ≡ inventory_from (with_below name body below)

@@ -1,4 +1,4 @@
--- What is broken by a group and all below it, by the way to it.
+-- What a group and all below it break, by path.
 use Rattle.std.proofs.Common.{◌≡◌, ℕ, ◌+◌, ◌-◌, Bool, true, false, if◌then◌else◌, List, [], ◌∷◌, ◌++◌, map, take, length, refl, sym, ap, ◌∙◌, append_assoc, arith, length-append}
 use Rattle.std.proofs.Math.Seq.{take-append_seam}
 use Rattle.std.specs.List.{flat_map, join_by}
@@ -12,7 +12,7 @@ use Rattle.inventory_read.specs.Listings.{broken_from, broken_under, way_to}
 use Rattle.inventory_read.specs.Paths.{text_path, names_to}
 use Rattle.inventory_read.specs.Rules.{Breach, placed, broken_by_group, broken_in}
 
--- a list from which the last element was taken, which was put behind these
+-- a list from which the last element was taken, after it was appended to these
 pub pop_last : {X : Type 0} (old xs new : List X) (x : X) (count : ℕ) → old ≡ xs ++ x ∷ [] → count ≡ length old → new ≡ take (count - 1) old → new ≡ xs
 pop_last old xs new x count put counted taken =
     let many : length old ≡ length xs + 1 = ap length put ∙ length-append xs (x ∷ []) in
@@ -23,16 +23,16 @@ later_pieces : {X : Type 0} (f : X → List ℕ) (sep : List ℕ) (xs : List X) 
 later_pieces f sep [] = refl
 later_pieces f sep (x ∷ xs) = ap (λ rest. (sep ++ f x) ++ rest) (later_pieces f sep xs)
 
--- joining pieces by their texts joins the texts
+-- joining pieces by their strings joins the strings
 pub join_texts : {X : Type 0} (f : X → List ℕ) (sep : List ℕ) (xs : List X) → join_by f sep xs ≡ join_by (λ text. text) sep (map f xs)
 join_texts f sep [] = refl
 join_texts f sep (x ∷ xs) = ap (λ rest. f x ++ rest) (later_pieces f sep xs)
 
--- the names on the way to a group below another
+-- the names that lead to a group below another
 way_on : (above : List Name) (name : Name) (names : List Name) → above ++ (name ∷ names) ≡ (above ++ name ∷ []) ++ names
 way_on above name names = sym (append_assoc above (name ∷ []) names)
 
--- the groups below a group, by the way to it
+-- the groups below a group, by path
 pub broken_below : (above : List Name) (name : Name) (groups : List Listed) → flat_map (broken_under above) (map (under name) groups) ≡ flat_map (broken_under (above ++ name ∷ [])) groups
 broken_below above name [] = refl
 broken_below above name (group ∷ groups) =
@@ -40,7 +40,7 @@ broken_below above name (group ∷ groups) =
     ap (λ names. map (placed (text_path names)) (broken_by_group group.name group.body)) (way_on above name (names_to group)) in
     rw (own, broken_below above name groups) refl
 
--- a group and all below it, by the way to what holds it
+-- a group and all below it, by the path to what contains it
 pub broken_with_below : (above : List Name) (name : Name) (body : Data) → flat_map (broken_under above) (with_below name body (below_body body)) ≡ broken_from (above ++ name ∷ []) name body
 broken_with_below above name body =
     ap (λ rest. map (placed (text_path (above ++ name ∷ []))) (broken_by_group name body) ++ rest) (broken_below above name (below_body body))

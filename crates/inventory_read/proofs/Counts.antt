@@ -1,4 +1,4 @@
--- The reader's counts against the document's inventory.
+-- The reader's counts compared with the document's inventory.
 use Rattle.std.proofs.Common.{◌≡◌, ℕ, ◌+◌, min, nat_le, Bool, ◌&&◌, List, [], ◌∷◌, map, length, String, Global, sym, ap, ◌∙◌, refl, arith}
 use Rattle.std.specs.List.{list_all, flat_map}
 use Rattle.std.proofs.Common.{length-append}
@@ -18,7 +18,7 @@ use Rattle.inventory_read.specs.declared.checking.Listed.{Listed}
 pub length-hosts : (list : List (String Global × Value)) → length (map host_of (entries (members_view list))) ≡ length list
 length-hosts list = length-map (entries (members_view list)) host_of ∙ sym (entries_counted list)
 
--- what holds of a list of groups, read off what counts of them
+-- properties of a list of groups, by the parts of a group that matter
 names_of : List Outline → List Name
 names_of groups = map (λ (group : Outline). group.name) groups
 

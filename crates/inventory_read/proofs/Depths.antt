@@ -1,4 +1,4 @@
--- A part of a value nests less deep than the value.
+-- A part of a value is nested less deep than the value.
 use Rattle.std.proofs.Common.{◌≡◌, ℕ, max, ◌+◌, ◌≤◌, List, Option, Some, Ordering, Less, Equal, Greater, nat_cmp, arith}
 use Rattle.std.specs.Ordering.{match_ordering}
 use Rattle.std.specs.Cmp.Lexicographic.{slice_cmp}

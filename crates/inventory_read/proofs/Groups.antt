@@ -1,4 +1,4 @@
--- The groups below a body, by the members under `children`, and what the reader's list says of them.
+-- The groups below a body, by the members under `children`, and the reader's list of them.
 use Rattle.std.proofs.Common.{◌≡◌, ℕ, ◌+◌, ◌≤◌, min, Bool, false, Option, Some, List, [], ◌∷◌, ◌++◌, map, Ordering, Less, Equal, Greater, unwrap_or, nat_cmp, refl, sym, ap}
 use Rattle.std.proofs.Common.{◌∙◌, append_assoc, arith}
 use Rattle.std.specs.List.{flat_map}
@@ -51,7 +51,7 @@ outline_at-under depth name (group ∷ groups) =
     ap (λ d. record { name = group.name; body = group.body; depth = d }) (omega arith) in
     rw (first, outline_at-under depth name groups) refl
 
--- where a group stands changes no outline
+-- the path of a group does not affect its outline
 pub outline_at-standing : (depth : ℕ) (past_all : Bool) (groups : List documents.Listed) → map (outline_at depth) (map (standing past_all) groups) ≡ map (outline_at depth) groups
 outline_at-standing depth past_all [] = refl
 outline_at-standing depth past_all (group ∷ groups) = ap (λ rest. outline_at depth group ∷ rest) (outline_at-standing depth past_all groups)
@@ -59,7 +59,7 @@ outline_at-standing depth past_all (group ∷ groups) = ap (λ rest. outline_at 
 cons_same : {X : Type 0} {x y : X} {xs ys : List X} → x ≡ y → xs ≡ ys → x ∷ xs ≡ y ∷ ys
 cons_same e f = cc
 
--- a group and all below it, once those below it have been added
+-- a group and all below it, after those below it have been added
 pub listed_with_below : (before after : List Listed) (group : Listed) (depth : ℕ) (members : Members) (whole : List Outline)
     → after ≡ before ++ group ∷ [] → group.depth ≤ most → depth ≡ min (group.depth + 1) most
     → members ≡ members_in (part children_key (view group.body.now)) → whole ≡ map outline_of after ++ map (outline_at depth) (groups_among members)
@@ -75,7 +75,7 @@ listed_with_below before after group depth members whole pushed fits deep is e =
     ∙ append_assoc (map outline_of before) (outline_of group ∷ []) _
     ∙ ap (λ rest. map outline_of before ++ rest) (cons_same own below)
 
--- some groups and those after them, once they have been added
+-- some groups and those after them, after they have been added
 pub listed_more : (before after : List Outline) (depth : ℕ) (own more : List documents.Listed) (whole : List Outline) → after ≡ before ++ map (outline_at depth) own
     → before ++ map (outline_at depth) (own ++ more) ≡ whole → after ++ map (outline_at depth) more ≡ whole
 listed_more before after depth own more whole listed e =
@@ -84,13 +84,13 @@ listed_more before after depth own more whole listed e =
     ∙ ap (λ last. before ++ last) (sym (map-append (outline_at depth) own more))
     ∙ e
 
--- `all` and all below it, once those below it have been listed
+-- `all` and all below it, after those below it have been listed
 pub listed_all : (groups : List Outline) (body : Data) (below : List documents.Listed)
     → groups ≡ record { name = all_key; body = body; depth = 1 } ∷ map (outline_at 2) below → groups ≡ map (outline_at 1) (with_below all_key body below)
 listed_all groups body below e =
     e ∙ ap (λ rest. record { name = all_key; body = body; depth = 1 } ∷ rest) (sym (outline_at-under 1 all_key below))
 
--- `all` and its children, as the reader has them, are all groups of the document
+-- `all` and its children in the reader's list are all groups of the document
 pub groups_of-is : (document all : Data) (children : List documents.Child)
     → children ≡ merged (own_children all) (groups_beside_all document) → all ≡ part all_key document
     → with_below all_key all (flat_map groups_from children) ≡ groups_of document

@@ -1,4 +1,4 @@
--- A document that breaks no rule names its groups and hosts by the alphabet.
+-- In a document that breaks no rule, all names of groups and hosts are valid.
 use Rattle.std.proofs.Common.{◌≡◌, ℕ, Bool, false, true, List, [], ◌∷◌, ◌++◌, map, refl, sym, ◌∙◌}
 use Rattle.std.specs.Cmp.Derive.{both_true}
 use Rattle.std.specs.List.{flat_map, list_all}
@@ -59,6 +59,6 @@ pub parts_named : (groups more : List Listed) → are_named (groups ++ more) ≡
 parts_named groups more e =
     and_parts (are_named groups) (are_named more) (sym (list_all-append is_named groups more) ∙ e)
 
--- where groups stand changes no name
+-- the paths of groups do not affect names
 pub standing_named : (past_all : Bool) (groups : List Listed) → are_named (map (standing past_all) groups) ≡ are_named groups
 standing_named past_all groups = list_all-map is_named (standing past_all) groups

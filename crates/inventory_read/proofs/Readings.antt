@@ -1,4 +1,4 @@
--- What the faults that are found say of a text.
+-- What the errors found state about a text.
 use Rattle.std.proofs.Common.{◌≡◌, ℕ, ◌<◌, ◌==◌, true, false, Option, Some, List, [], ◌∷◌, map, length, get_or, inl, inr, MatchOption, refl, sym, ap, ◌∙◌, subst, arith}
 use Rattle.std.specs.Bool.{⊤}
 use Rattle.std.proofs.lemmas.Bool.{and_from, and_parts, both_ways, eq-eqb, eqb-true, false_from_ne_true}
@@ -22,7 +22,7 @@ are_told most breaches t told all faults more = record {
   others = more ∙ ap (λ (u : Telling Breach). u.more) all ∙ more_of most breaches;
 }
 
--- where there is no fault nothing is broken
+-- if there is no error, nothing is broken
 pub none_told : (most : ℕ) (breaches : List Breach) (told : Told) → AreTold most breaches told → is_empty told ≡ true → breaches ≡ []
 none_told most breaches told are empty =
     let both = and_parts (length told.faults.items == 0) (told.more == 0) empty in
@@ -34,7 +34,7 @@ pub some_told : (most : ℕ) (breach : Breach) (breaches : List Breach) (told : 
 some_told most breach breaches told are =
     false_from_ne_true (is_empty told) (λ empty. let none : breach ∷ breaches ≡ [] = none_told most (breach ∷ breaches) told are empty in cc)
 
--- where there is one the first breach is told
+-- if there is one, the first breach is reported
 one_told : (breaches : List Breach) (told : Told) → AreTold 1 breaches told → is_empty told ≡ false
     → (breach : Breach) × (first_of breaches ≡ Some breach) × (map breach_of told.faults.items ≡ Some breach ∷ [])
 one_told [] told are some =

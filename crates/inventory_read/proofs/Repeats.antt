@@ -1,4 +1,4 @@
--- Names that were met, one after another, and those that stood before.
+-- Names in order of appearance, and those that occur before.
 use Rattle.std.proofs.Common.{◌≡◌, ℕ, zero, suc, arith, ◌+◌, ◌<◌, ◌≤◌, Bool, true, false, not, ◌||◌, List, [], ◌∷◌, ◌++◌, take}
 use Rattle.std.proofs.Common.{length, get_or, Bor, Ordering, Less, Equal, Greater, nat_cmp, sym, ap, subst, ◌∙◌, refl}
 use Rattle.std.specs.List.{flat_map, list_any, range_with_len}
@@ -26,7 +26,7 @@ cmp x y = slice_cmp nat_cmp x.now y.now
 abbrev has : Name → List Text → Bool
 has name keys = list_any (λ own. same_name name own.now) keys
 
--- the set's own test is that of names
+-- the set's own test is equality of names
 pub has-is : (name : Name) (keys : List Text) → list_any (λ own. is_eq (slice_cmp nat_cmp name own.now)) keys ≡ has name keys
 has-is name [] = refl
 has-is name (key ∷ keys) = rw (is_eq-slice_cmp name key.now, has-is name keys) refl
@@ -57,7 +57,7 @@ or_comm true false = refl
 or_comm false true = refl
 or_comm false false = refl
 
--- after one name more
+-- after one more name
 pub has-more : (name : Name) (keys more : List Text) (key : Text) (names : List Name) (i : ℕ) → i < length names → key.now ≡ get_or names i []
     → more ≡ insert_key cmp keys key → has name keys ≡ is_among name (take i names) → has name more ≡ is_among name (take (i + 1) names)
 has-more name keys more key names i within is added kept =
@@ -69,17 +69,17 @@ has-more name keys more key names i within is added kept =
     ∙ sym (list_any-append (same_name name) (take i names) (get_or names i [] ∷ []))
     ∙ ap (is_among name) (sym (take_more names i [] within))
 
--- a name is added where it did not stand before
+-- a name is added if it does not occur before
 pub is_added : (keys : List Text) (key : Text) (names : List Name) (i : ℕ) (added : Bool) → key.now ≡ get_or names i [] → ((name : Name) → has name keys ≡ is_among name (take i names))
     → added ≡ not (list_any (λ own. is_eq (slice_cmp nat_cmp key.now own.now)) keys) → added ≡ not (stood_before names i)
 is_added keys key names i added is kept answer =
     answer ∙ ap not (has-is key.now keys ∙ kept key.now ∙ ap (λ name. is_among name (take i names)) is)
 
--- the groups before an index, and those whose names stood before
+-- the groups before an index whose names occur before them
 abbrev pub repeats_to : List Name → ℕ → List Breach
 repeats_to names index = flat_map (repeated_at names) (range_with_len 0 index)
 
--- after one index more
+-- after one more index
 pub repeats_more : (names : List Name) (index : ℕ) → repeats_to names (index + 1) ≡ repeats_to names index ++ repeated_at names index
 repeats_more names index = flat_map-range_more (repeated_at names) index
 
@@ -93,7 +93,7 @@ unrepeated-to names (suc index) within none =
     let before = unrepeated-to names index (omega arith) (no_first (repeats_to names index) _ parts) in
     subst (λ n. are_distinct (take n names) ≡ true) more (are_distinct-more names index (omega arith) before new)
 
--- names of which none stood before are distinct
+-- names of which none occurs before are distinct
 pub unrepeated-distinct : (names : List Name) → repeats names ≡ [] → are_distinct names ≡ true
 unrepeated-distinct names none =
     sym (ap are_distinct (take_all (length names) names (omega arith))) ∙ unrepeated-to names (length names) (omega arith) none

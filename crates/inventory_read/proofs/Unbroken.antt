@@ -1,4 +1,4 @@
--- What a document that breaks no rule keeps.
+-- The properties of a document that breaks no rule.
 use Rattle.std.proofs.Common.{◌≡◌, ◌≤◌, true, ◌&&◌, [], length, nat_le}
 use Rattle.std.proofs.lemmas.Bool.{and_parts, leb-true}
 use Rattle.serde_json.specs.Data.{Data}

@@ -1,4 +1,4 @@
--- What is found in groups, one after another.
+-- The errors of groups in sequence.
 use Rattle.std.proofs.Common.{◌≡◌, Bool, true, false, List, [], ◌∷◌, ◌++◌, map, sym, ap, ◌∙◌}
 use Rattle.std.specs.List.{flat_map}
 use Rattle.serde_json.specs.Data.{Data}
@@ -12,7 +12,7 @@ use Rattle.text_syntax.specs.Telling.{Telling, with_breaches}
 use Rattle.inventory_read.proofs.Checks.{broken_by_children, broken_by_first, broken_by_member}
 use Rattle.text_syntax.proofs.Tellings.{after, all_told, pass}
 
--- a rule of the whole document, by its test
+-- a rule of the complete document, by its test
 pub at_top : (kept test : Bool) (breach : Breach) → kept ≡ test → map (placed []) (unless kept breach) ≡ unless test (placed [] breach)
 at_top true test breach same = ap (λ b. unless b (placed [] breach)) same
 at_top false test breach same = ap (λ b. unless b (placed [] breach)) same

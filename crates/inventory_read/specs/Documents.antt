@@ -9,12 +9,12 @@ use Rattle.group_tree.specs.Names.{Name, same_name}
 use Rattle.text_syntax.specs.Shapes.{Entry, entries_in}
 use Rattle.inventory_read.specs.Keys.{all_key, children_key}
 
--- the value under a key of an object, null where there is none
+-- the value under a key of an object, or null if there is none
 abbrev pub part : Name → Data → Data
 part key value = unwrap_or (get key value) null
 
--- a group as the document lists it: the names above it from the outermost in, its own name, its body, and whether the way to it in the
--- text leads past `all`
+-- a group as listed by the document: the names above it, outermost first; its own name; its body; whether its path in
+-- the text leaves out `all`
 pub record Listed : Type 0 where
   pub above : List Name
   pub name : Name
@@ -25,11 +25,11 @@ pub record Listed : Type 0 where
 abbrev pub under : Name → Listed → Listed
 under outer group = record group { above = outer ∷ group.above }
 
--- a group, and after it all those below it
+-- a group, then all groups below it
 abbrev pub with_below : Name → Data → List Listed → List Listed
 with_below name body below = record { above = []; name = name; body = body; past_all = false } ∷ map (under name) below
 
--- the groups below a body, where `children` of the body lists groups in the order of their names
+-- the groups below a body, whose `children` lists groups in name order
 abbrev mutual
   pub below_body : Data → List Listed
   below_body (object members) = below_members members
@@ -55,29 +55,30 @@ abbrev mutual
   groups_among no_members = []
   groups_among (member name body more) = with_below name body (below_body body) ++ groups_among more
 
--- a child of `all`; `past_all` marks one to which the way in the text doesn't lead through `all`: the top value lists it beside `all`
+-- a child of `all`; `past_all` is set if the top value lists it next to `all`, so that its path in the text leaves
+-- out `all`
 pub record Child : Type 0 where
   pub name : Name
   pub value : Data
   pub past_all : Bool
 
--- what an entry lists, as a child of `all`
+-- an entry as a child of `all`
 abbrev pub as_child : Bool → Entry → Child
 as_child past_all entry = record { name = entry.name; value = entry.value; past_all = past_all }
 
--- the same group, to which the way leads past `all`, or through it
+-- the same group, with a path that leaves out `all` or contains it
 abbrev pub standing : Bool → Listed → Listed
 standing past_all group = record group { past_all = past_all }
 
--- a child of `all` and all below it, each marked as the child is
+-- a child of `all` and all groups below it, each marked as the child is
 abbrev pub groups_from : Child → List Listed
 groups_from child = map (standing child.past_all) (with_below child.name child.value (below_body child.value))
 
--- the second name stands before the first
+-- the second name comes before the first
 abbrev pub comes_after : Child → Child → Bool
 comes_after child other = is_lt (slice_cmp nat_cmp other.name child.name)
 
--- two lists, each in the order of its names, as one; of two with one name the first list's comes first
+-- two lists in name order, merged; of two entries with the same name, the first list's comes first
 abbrev pub merged : List Child → List Child → List Child
 merged [] others = others
 merged (child ∷ own) others =
@@ -86,7 +87,7 @@ merged (child ∷ own) others =
 abbrev pub is_beside_all : Entry → Bool
 is_beside_all entry = not (same_name entry.name all_key)
 
--- the groups that the top value lists beside `all`
+-- the groups that the top value lists next to `all`
 abbrev pub groups_beside_all : Data → List Child
 groups_beside_all document = map (as_child true) (filter is_beside_all (entries_in document))
 
@@ -94,11 +95,11 @@ groups_beside_all document = map (as_child true) (filter is_beside_all (entries_
 abbrev pub own_children : Data → List Child
 own_children all = map (as_child false) (entries_in (part children_key all))
 
--- the children of `all`: its own, and the groups beside it
+-- the children of `all`: its own, and the groups next to it
 abbrev pub children_of_all : Data → List Child
 children_of_all document = merged (own_children (part all_key document)) (groups_beside_all document)
 
--- all groups of the document in preorder, `all` first; where it is missing it has no body
+-- all groups of the document in preorder, `all` first; if it is missing, it has no body
 abbrev pub groups_of : Data → List Listed
 groups_of document =
     with_below all_key (part all_key document) (flat_map groups_from (children_of_all document))

@@ -1,4 +1,4 @@
--- Which rule a fault names.
+-- The rule that an error names.
 use Rattle.std.specs.Prelude.{ℕ, Option, Some, None, []}
 use Rattle.std.specs.String.{string_bytes}
 use Rattle.inventory_read.specs.Paths.{down_path, host_path, limit_path, part_path}
@@ -9,7 +9,7 @@ use Rattle.inventory_read.specs.declared.flaw.Flaw.TheVariants as flaw
 use Rattle.inventory_read.specs.declared.fault.ReadFault.{ReadFault}
 use Rattle.inventory_read.specs.declared.fault.ReadFault.TheVariants as fault
 
--- which rule a flaw breaks, with its path from the group's body on
+-- the rule that a flaw breaks, with its path from the group's body
 abbrev pub breach_of_flaw : Flaw → Breach
 breach_of_flaw flaw.NotJson = rules.NotJson
 breach_of_flaw (flaw.BadName name) = rules.BadName name.now
@@ -23,7 +23,7 @@ breach_of_flaw (flaw.TwicePlaced group) = rules.TwicePlaced group
 breach_of_flaw flaw.TooDeep = rules.TooDeep
 breach_of_flaw flaw.TooMany = rules.TooMany
 
--- want of memory breaks no rule
+-- running out of memory breaks no rule
 abbrev pub breach_of : ReadFault → Option Breach
 breach_of fault.NotJson = Some rules.NotJson
 breach_of (fault.BadShape at) = Some (rules.BadShape (string_bytes at))
@@ -36,7 +36,7 @@ breach_of fault.TooDeep = Some rules.TooDeep
 breach_of fault.TooMany = Some rules.TooMany
 breach_of fault.Memory = None
 
--- the number that is printed
+-- the printed number
 abbrev pub number_of : ReadFault → Option ℕ
 number_of fault.NotJson = Some 201
 number_of (fault.BadShape at) = Some 202

@@ -1,4 +1,4 @@
--- The keys that the format gives a meaning, beside `hosts`.
+-- The keys that the format defines, in addition to `hosts`.
 use Rattle.std.specs.Prelude.{List, [], ◌∷◌, codes}
 use Rattle.group_tree.specs.Names.{Name}
 use Rattle.text_syntax.specs.Keys.{hosts_key}
@@ -18,6 +18,6 @@ max_down_key = codes "max_down"
 abbrev pub down_key : Name
 down_key = codes "down"
 
--- the keys that a group's body may have
+-- the keys allowed in a group's body
 abbrev pub body_keys : List Name
 body_keys = hosts_key ∷ children_key ∷ vars_key ∷ []

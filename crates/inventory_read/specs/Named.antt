@@ -1,4 +1,4 @@
--- Groups of a document whose names, and those of their hosts, keep the alphabet.
+-- Groups of a document with valid names, also of their hosts.
 use Rattle.std.specs.Prelude.{Bool, ◌&&◌, List}
 use Rattle.std.specs.List.{list_all}
 use Rattle.serde_json.specs.Data.{Data}

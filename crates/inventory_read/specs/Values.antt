@@ -1,4 +1,4 @@
--- What a document says of its groups: limits, variables, hosts, and so the inventory.
+-- The contents of a document's groups: limits, variables, hosts, and thus the inventory.
 use Rattle.std.specs.Prelude.{Option, Some, None, List, map, option_map, option_and_then}
 use Rattle.std.specs.List.{filter_map, flat_map}
 use Rattle.serde_json.specs.Data.{Data, null, boolean, number, string, array, object}
@@ -13,7 +13,7 @@ use Rattle.text_syntax.specs.Shapes.{Entry, entries_in}
 use Rattle.inventory_read.specs.Keys.{vars_key, max_down_key}
 use Rattle.inventory_read.specs.Documents.{Listed, part, groups_of}
 
--- a text, a whole number or a truth value; any other value defines nothing
+-- a string, an integer or a boolean; any other value defines nothing
 abbrev pub scalar_of : Data → Option Scalar
 scalar_of (string text) = Some (Text text)
 scalar_of (number n) = option_map Int (as_i64 n)
@@ -28,7 +28,7 @@ variable_of entry = option_map (λ value. record { name = entry.name; value = va
 abbrev pub variables_of : List Entry → List Variable
 variables_of list = filter_map variable_of list
 
--- a limit is a whole number from 0 to 65,535, or a percentage as a text
+-- a limit is an integer from 0 to 65,535, or a percentage as a string
 abbrev pub limit_of : Data → Option Limit
 limit_of (number n) = option_map Count (whole_number 65535 (number n))
 limit_of (string text) = option_map Percent (percentage_in text)
@@ -40,7 +40,7 @@ limit_of (object _) = None
 abbrev pub host_of : Entry → Host
 host_of entry = record { name = entry.name; variables = variables_of (entries_in entry.value) }
 
--- what a group's body says: its limit, its variables and its own hosts
+-- the contents of a group's body: its limit, its variables and its own hosts
 abbrev pub limit_in : Data → Option Limit
 limit_in body = option_and_then limit_of (get max_down_key (part vars_key body))
 
@@ -64,6 +64,6 @@ rows_of group = map (row_of group) (hosts_in group.body)
 abbrev pub inventory_from : List Listed → Inventory
 inventory_from groups = record { places = map place_of groups; rows = flat_map rows_of groups }
 
--- the inventory that the document says
+-- the inventory that the document contains
 abbrev pub inventory_of : Data → Inventory
 inventory_of document = inventory_from (groups_of document)

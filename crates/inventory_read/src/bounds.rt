@@ -1,4 +1,4 @@
-//! The rules that a document's groups keep together.
+//! The rules for all groups of a document together.
 ghost use Rattle.std.specs.Prelude.{◌≡◌, List, map, min, nat_le, ◌&&◌, length, OnOk};
 ghost use Rattle.std.specs.List.{list_all, flat_map};
 ghost use Rattle.serde_json.specs.View.{view};
@@ -19,7 +19,7 @@ use serde_json::Value;
 use std::alloc::{AllocError, Global};
 use std::collections::BTreeSet;
 
-/// Adds each group whose name stood before, by its number, counted from 1.
+/// Adds each group whose name occurs before, by its number, counted from 1.
 fn check_repeats(
     scratch: Global,
     faults: &mut FaultCollector,
@@ -66,7 +66,7 @@ fn are_few(groups: &[Listed<'_>]) -> bool
     groups.len() <= GROUPS_BOUND && count_rows(groups) <= ROWS_BOUND
 }
 
-/// Adds the names that stand twice, the depth, and the number of groups or of rows.
+/// Adds the errors in the uniqueness of names, the depth, and the numbers of groups and rows.
 pub(crate) fn check_tree(
     scratch: Global,
     faults: &mut FaultCollector,

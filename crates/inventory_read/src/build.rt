@@ -1,4 +1,4 @@
-//! Groups as the tree keeps them.
+//! From a document to groups as the tree stores them.
 ghost use Rattle.std.specs.Prelude.{◌≡◌, IfOk, IsTrue, map, [], option_map, option_and_then};
 ghost use Rattle.std.specs.List.{flat_map};
 ghost use Rattle.serde_json.specs.View.{view};
@@ -29,7 +29,7 @@ fn limit_in(body: &Value) -> Option<Limit>
     limit_of(body.get(VARS)?.get(MAX_DOWN)?)
 }
 
-/// The variables that a group's body gives it.
+/// Returns the variables that a group's body defines.
 fn variables_in<'a>(
     scratch: Global,
     body: &'a Value,
@@ -42,7 +42,7 @@ fn variables_in<'a>(
     }
 }
 
-/// The variables of a host.
+/// Returns the variables of a host.
 fn host_variables<'a>(
     scratch: Global,
     value: &'a Value,
@@ -55,7 +55,7 @@ fn host_variables<'a>(
     }
 }
 
-/// A group with its own hosts, and no children.
+/// Builds a group with its own hosts, and no children.
 fn own_group<A: Allocator + Clone>(
     alloc: A,
     scratch: Global,
@@ -84,7 +84,7 @@ fn own_group<A: Allocator + Clone>(
     Ok(group)
 }
 
-/// A group with all below it.
+/// Builds a group with all groups below it.
 fn build<A: Allocator + Clone>(
     alloc: A,
     scratch: Global,
@@ -105,7 +105,7 @@ fn build<A: Allocator + Clone>(
     Ok(group)
 }
 
-/// `all` with this body, and all below it, where these are the children of `all`.
+/// Builds `all` with this body and these children, and all groups below it.
 pub(crate) fn build_all<A: Allocator + Clone>(
     alloc: A,
     scratch: Global,

@@ -1,4 +1,4 @@
-//! All groups of a document, one after the other in preorder, and what each breaks by itself.
+//! All groups of a document in preorder, and the rules that each breaks on its own.
 ghost use Rattle.std.specs.Prelude.{◌≡◌, ◌++◌, IfOk, OnOk, map};
 ghost use Rattle.std.specs.List.{flat_map};
 ghost use Rattle.serde_json.specs.View.{view};
@@ -16,7 +16,7 @@ use crate::rules::check_group;
 use serde_json::Value;
 use std::alloc::{AllocError, Global};
 
-/// A group and how deep it is.
+/// A group and its depth.
 #[derive(Clone, Copy)]
 pub(crate) struct Listed<'a> {
     pub(crate) name: &'a str,
@@ -25,7 +25,7 @@ pub(crate) struct Listed<'a> {
     pub(crate) depth: usize,
 }
 
-/// Checks and lists a group, and after it all those below it. The names lead to the group, and do so again at the end.
+/// Checks and lists a group, then all groups below it. `names` leads to the group, before and after the call.
 fn check_from<'a>(
     faults: &mut FaultCollector,
     groups: &mut Vec<Listed<'a>>,
@@ -54,7 +54,7 @@ fn check_from<'a>(
     Ok(())
 }
 
-/// Puts in place of the names those that lead to this child of `all`.
+/// Replaces the names with those that lead to this child of `all`.
 fn lead_to<'a>(names: &mut Vec<&'a str>, child: Child<'a>) -> Result<(), AllocError>
     ensures { OnOk result (texts names.new.items ≡ way_to (child_of child.entry)) }
 {
@@ -66,7 +66,7 @@ fn lead_to<'a>(names: &mut Vec<&'a str>, child: Child<'a>) -> Result<(), AllocEr
     Ok(())
 }
 
-/// Checks and lists `all` with this body, and all below it, where these are the children of `all`.
+/// Checks and lists `all` with this body and these children, and all groups below it.
 pub(crate) fn check_groups<'a>(
     scratch: Global,
     faults: &mut FaultCollector,

@@ -1,4 +1,4 @@
-//! The faults that are found, and how many more there are.
+//! The errors found, and how many more there are.
 ghost use Rattle.std.specs.Prelude.{◌≡◌, ◌+◌, ◌++◌, ◌∷◌, [], OnOk, length, map, nat_lt};
 ghost use Rattle.text_syntax.specs.Breaches.{unless};
 ghost use Rattle.inventory_read.specs.Faults.{breach_of, breach_of_flaw};
@@ -13,7 +13,7 @@ use crate::told::Told;
 use std::alloc::{AllocError, Global};
 use std::marker::Model;
 
-/// Keeps the first faults. Those after them are counted, and nothing is made of them.
+/// Stores the first errors. It only counts those after them.
 #[derive(Drop)]
 pub(crate) struct FaultCollector {
     alloc: Global,
@@ -61,12 +61,12 @@ impl FaultCollector {
     fn count(&mut self) -> Result<(), AllocError>
         ensures { OnOk result (self.new ≡ record self.old { more = self.old.more + 1 }) }
     {
-        // No memory holds a text of so many faults.
+        // No memory holds a text with that many errors.
         self.more = self.more.checked_add(1).ok_or(AllocError)?;
         Ok(())
     }
 
-    /// Adds the flaw of the group to which these names lead, or of the whole document where there is none.
+    /// Adds an error of the group to which these names lead, or of the complete document if there are no names.
     pub(crate) fn add(&mut self, names: &[&str], flaw: Flaw<'_>) -> Result<(), AllocError>
         ensures { OnOk result (self.new ≡ with_placed self.old names.now (breach_of_flaw flaw.entry ∷ [])) }
     {
@@ -77,7 +77,7 @@ impl FaultCollector {
         self.keep(fault)
     }
 
-    /// Adds the flaw unless the rule is kept.
+    /// Adds the error if the rule is broken.
     pub(crate) fn check(
         &mut self,
         kept: bool,

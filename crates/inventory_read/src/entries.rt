@@ -8,7 +8,7 @@ ghost use Rattle.inventory_read.specs.Documents.{part};
 use serde_json::{Map, Value};
 use text_syntax::entries_of;
 
-/// The entries of the object that stands under a key.
+/// Returns the entries of the object under a key.
 pub(crate) fn entries_at<'a>(value: &'a Value, key: &str) -> Option<&'a Map<String, Value>>
     ensures entries { MatchOption result (members_in (part key.now (view value.now)) ≡ no_members)
         (λ object. members_view object.now.entries ≡ members_in (part key.now (view value.now))) }

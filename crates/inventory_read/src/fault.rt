@@ -1,32 +1,33 @@
-//! Why a text is no inventory.
+//! Why a text is not a valid inventory.
 ghost use Rattle.std.specs.Prelude.{◌≡◌};
 ghost use Rattle.inventory_read.specs.Faults.{number_of};
 
 use std::alloc::{AllocError, AllocFailed};
 use thiserror::Error;
 
-/// Why a text is no inventory: the first rule that it breaks. A path `at` is the keys from the top value, joined
-/// by `/`; the top value's is empty.
+/// Why a text is not a valid inventory: the first rule that it breaks. A path `at` consists of the keys from the top
+/// value, joined by `/`. The path of the top value is empty.
 #[derive(Debug, PartialEq, Eq, Drop, Error)]
 pub enum ReadFault {
     #[error("the text is no JSON")]
     NotJson,
-    /// A value is neither null nor an object, or the top value is no object.
+    /// A value is neither null nor an object, or the top value is not an object.
     #[error("not of the shape that the format asks for: {at:?}")]
     BadShape { at: String },
-    /// A group's body has a key that the format does not name.
+    /// A group's body has a key that the format does not define.
     #[error("a key that the format does not name: {at:?}")]
     UnknownKey { at: String },
-    /// A group's `max_down` is no whole number from 0 to 65,535.
+    /// A group's `max_down` is not a valid limit.
     #[error("neither a whole number from 0 to 65535 nor a percentage: {at:?}")]
     BadLimit { at: String },
-    /// A host's `down` is no truth value.
+    /// A host's `down` is not a boolean.
     #[error("neither true nor false: {at:?}")]
     BadDown { at: String },
     /// The name of a group or a host is not 1 to 255 ASCII letters, digits, dots, dashes and underscores.
     #[error("not a name of letters, digits, dots, dashes and underscores: {name:?}")]
     BadName { name: String },
-    /// Two groups have one name. `group` is the preorder number, counted from 1, of the first whose name stood before.
+    /// Two groups have the same name. `group` is the preorder number, counted from 1, of the first group whose name
+    /// occurs before.
     #[error("group {group} has the name of one before it")]
     TwicePlaced { group: usize },
     /// A group is more than 32 deep; `all` has depth 1.
@@ -40,7 +41,7 @@ pub enum ReadFault {
 }
 
 impl ReadFault {
-    /// The number of the rule that is broken; want of memory breaks none.
+    /// Returns the error number. Running out of memory has none.
     pub fn number(&self) -> Option<u16>
         ensures { result ≡ number_of self.now }
     {

@@ -1,6 +1,6 @@
-//! What is wrong with a document.
+//! The errors of a document.
 
-/// A rule that a document breaks. A name, a key or a host says where below the body of the group that breaks it.
+/// A rule that a document breaks. A name, a key or a host locates it below the body of the group that breaks it.
 #[derive(Clone, Copy, Debug)]
 pub(crate) enum Flaw<'a> {
     NotJson,
@@ -8,13 +8,13 @@ pub(crate) enum Flaw<'a> {
     BadName(&'a str),
     /// The group's body, or the top value.
     BadBody,
-    /// Under this key of the body.
+    /// The value under this key of the body.
     BadPart(&'a str),
     BadHost(&'a str),
     UnknownKey(&'a str),
     BadLimit,
     BadDown(&'a str),
-    /// The group with this number, counted from 1, has a name that stood before.
+    /// The group with this number, counted from 1, has a name that occurs before.
     TwicePlaced(usize),
     TooDeep,
     TooMany,

@@ -1,4 +1,4 @@
-//! The keys that the format gives a meaning.
+//! The keys that the format defines.
 pub(crate) const ALL: &str = "all";
 
 pub(crate) const CHILDREN: &str = "children";

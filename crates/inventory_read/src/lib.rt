@@ -1,4 +1,4 @@
-//! Reads an inventory from the bytes of a JSON text, or finds its faults.
+//! Reads an inventory from the bytes of a JSON text, or finds its errors.
 #![tactic(auto)]
 
 mod bounds;

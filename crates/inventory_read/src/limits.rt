@@ -1,4 +1,4 @@
-//! Limits as the text gives them.
+//! Limits as given in a document.
 ghost use Rattle.std.specs.Prelude.{◌≡◌, option_map};
 ghost use Rattle.serde_json.specs.View.{view};
 ghost use Rattle.group_tree.specs.Limits as tree;
@@ -8,7 +8,7 @@ use group_tree::{Limit, Percentage};
 use serde_json::Value;
 use text_syntax::{percentage_in, whole_number};
 
-/// What `max_down` says: a whole number from 0 to 65,535, or a percentage.
+/// Returns the limit in `max_down`: an integer from 0 to 65,535, or a percentage.
 pub(crate) fn limit_of(value: &Value) -> Option<Limit>
     ensures { option_map tree.limit_of result ≡ values.limit_of (view value.now) }
 {

@@ -1,4 +1,4 @@
-//! Where in the text a flaw stands.
+//! The paths of errors in the text.
 ghost use Rattle.std.specs.Prelude.{◌≡◌, ◌++◌, IfOk, OnOk, Some};
 ghost use Rattle.std.specs.String.{string_bytes};
 ghost use Rattle.inventory_read.specs.Faults.{breach_of, breach_of_flaw};
@@ -11,7 +11,7 @@ use crate::flaw::Flaw;
 use crate::keys::{DOWN, HOSTS, MAX_DOWN, VARS};
 use std::alloc::{AllocError, Global};
 
-/// Goes on with the keys, each after `/`.
+/// Appends the keys, each after `/`.
 fn push_keys(path: &mut String, keys: &[&str]) -> Result<(), AllocError>
     ensures { OnOk result (string_bytes path.new ≡ string_bytes path.old ++ keys_text (texts keys.now)) }
 {
@@ -22,7 +22,7 @@ fn push_keys(path: &mut String, keys: &[&str]) -> Result<(), AllocError>
     Ok(())
 }
 
-/// The path of the group to which these names lead from an entry of the top value, and from there these keys.
+/// Returns the path to the group to which these names lead, and then along these keys.
 fn path_to(scratch: Global, names: &[&str], keys: &[&str]) -> Result<String, AllocError>
     ensures { IfOk result (λ path. string_bytes path ≡ text_path (texts names.now) ++ keys_text (texts keys.now)) }
 {
@@ -31,7 +31,7 @@ fn path_to(scratch: Global, names: &[&str], keys: &[&str]) -> Result<String, All
     Ok(path)
 }
 
-/// The fault of a value that has not the shape that the format asks for.
+/// Returns the error of a value with the wrong shape.
 fn bad_shape(scratch: Global, names: &[&str], keys: &[&str]) -> Result<ReadFault, AllocError>
     ensures { IfOk result (λ fault. breach_of fault ≡ Some (rules.BadShape (text_path (texts names.now) ++ keys_text (texts keys.now)))) }
 {
@@ -40,7 +40,7 @@ fn bad_shape(scratch: Global, names: &[&str], keys: &[&str]) -> Result<ReadFault
     })
 }
 
-/// The fault that reports the flaw of the group to which these names lead.
+/// Returns the error for a flaw in the group to which these names lead.
 pub(crate) fn fault_at(
     scratch: Global,
     names: &[&str],

@@ -1,4 +1,4 @@
-//! From the bytes of a text to the tree, or to its faults.
+//! From the bytes of a text to the tree, or to its errors.
 ghost use Rattle.std.specs.Prelude.{◌≡◌, ◌∷◌, [], List, Some, false, map, IfOk, IfErr, OnOk, IsUtf8, MatchOption, MatchResult};
 ghost use Rattle.std.specs.List.{flat_map};
 ghost use Rattle.serde_json.specs.Data.{null};
@@ -27,7 +27,7 @@ use group_tree::Tree;
 use serde_json::Value;
 use std::alloc::{AllocError, Allocator, Global};
 
-/// The document of a text; none where the text is no JSON.
+/// Returns the document of a text, or `None` if it is not valid JSON.
 fn parse(scratch: Global, text: &[u8]) -> Result<Option<Value>, AllocError>
     ensures { IfOk result (λ found. MatchOption found (IsNoJson text.now)
         (λ document. IsUtf8 text.now × (read text.now ≡ Some (view document)))) }
@@ -39,7 +39,7 @@ fn parse(scratch: Global, text: &[u8]) -> Result<Option<Value>, AllocError>
     }
 }
 
-/// The faults of a text that is no JSON.
+/// Returns the errors of a text that is not valid JSON.
 fn no_json(scratch: Global, most: usize) -> Result<Told, AllocError>
     ensures { IfOk result (λ told. AreTold most (rules.NotJson ∷ []) told) }
 {
@@ -54,7 +54,7 @@ fn check_top(faults: &mut FaultCollector, document: &Value) -> Result<(), AllocE
     faults.check(document.is_object(), &[], Flaw::BadBody)
 }
 
-/// The body of `all`; where it is missing, nothing.
+/// Returns the body of `all`, or `nothing` if it is missing.
 fn body_of_all<'a>(document: &'a Value, nothing: &'a Value) -> &'a Value
     requires { view nothing.now ≡ null }
     ensures { view result.now ≡ documents.part all_key (view document.now) }
@@ -62,7 +62,7 @@ fn body_of_all<'a>(document: &'a Value, nothing: &'a Value) -> &'a Value
     document.get(ALL).unwrap_or(nothing)
 }
 
-/// The faults of the document, where this is the body of `all`, and these are its children.
+/// Returns the errors of the document, with this body of `all` and these children of `all`.
 fn check(
     scratch: Global,
     document: &Value,
@@ -80,7 +80,7 @@ fn check(
     Ok(faults.into_told())
 }
 
-/// The tree that a document says, or its faults.
+/// Returns the tree that a document contains, or its errors.
 fn read_document<A: Allocator + Clone>(
     alloc: A,
     scratch: Global,
@@ -102,10 +102,11 @@ fn read_document<A: Allocator + Clone>(
     Ok(Ok(Tree::within_bounds(root)))
 }
 
-/// Reads an inventory into a tree under `alloc`, or finds its faults: at most `most` of them, and how many more there are.
-/// What is needed on the way is taken from `scratch` and given back. Faults come in this order: those of the groups in
-/// preorder, each group whose name stood before, the depth, and the numbers of groups and rows. A text that is no JSON has
-/// that fault alone, and a value of a wrong shape none below it. Fails only if an allocation fails.
+/// Reads an inventory into a tree under `alloc`, or finds its errors: at most `most` of them, and how many more there
+/// are. Intermediate memory is allocated from `scratch` and freed. Errors of the groups come first, in preorder, then
+/// each group whose name occurs before. The depth comes next, then the numbers of groups and rows. A text that is not
+/// valid JSON has only that error, and a value of the wrong shape has none below it. Fails only if an allocation
+/// fails.
 pub fn inventory_or_faults<A: Allocator + Clone>(
     alloc: A,
     scratch: Global,
@@ -121,8 +122,8 @@ pub fn inventory_or_faults<A: Allocator + Clone>(
     }
 }
 
-/// Reads an inventory into a tree under `alloc`, or finds its first fault. A text that breaks no rule is refused for want
-/// of memory alone.
+/// Reads an inventory into a tree under `alloc`, or finds its first error. A valid text is rejected only if an
+/// allocation fails.
 pub fn read_inventory<A: Allocator + Clone>(
     alloc: A,
     scratch: Global,

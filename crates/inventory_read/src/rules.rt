@@ -1,4 +1,4 @@
-//! The rules that each group of a document keeps by itself. The names lead to the group.
+//! The rules for a single group of a document. `names` leads to the group.
 ghost use Rattle.std.specs.Prelude.{◌≡◌, OnOk};
 ghost use Rattle.serde_json.specs.View.{view};
 ghost use Rattle.text_syntax.specs.Keys.{hosts_key};
@@ -57,7 +57,7 @@ fn check_hosts(faults: &mut FaultCollector, names: &[&str], body: &Value) -> Res
     Ok(())
 }
 
-/// Adds all that the group breaks, apart from the groups below it.
+/// Adds all errors of the group, without the groups below it.
 pub(crate) fn check_group(
     faults: &mut FaultCollector,
     names: &[&str],

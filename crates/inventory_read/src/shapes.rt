@@ -1,4 +1,4 @@
-//! Whether the values of a document have the shapes that the format asks for.
+//! Whether the values of a document have the shapes that the format requires.
 ghost use Rattle.std.specs.Prelude.{◌≡◌, option_map};
 ghost use Rattle.serde_json.specs.Find.{get};
 ghost use Rattle.serde_json.specs.View.{view};
@@ -18,7 +18,7 @@ pub(crate) fn has_shape(value: &Value) -> bool
     value.is_null() || value.is_object()
 }
 
-/// Whether what stands under a key has the shape; so has what is missing.
+/// Returns whether the value under a key has the required shape. A missing value has it.
 pub(crate) fn has_shaped_part(body: &Value, key: &str) -> bool
     ensures { result ≡ rules.has_shape (part key.now (view body.now)) }
 {
@@ -43,7 +43,7 @@ fn may_be_limit(value: Option<&Value>) -> bool
     }
 }
 
-/// Whether the group's `max_down` is a limit, where there is one.
+/// Returns whether the group's `max_down` is a valid limit or missing.
 pub(crate) fn has_limit_or_none(body: &Value) -> bool
     ensures { result ≡ rules.is_none_or rules.is_limit (get max_down_key (part vars_key (view body.now))) }
 {
@@ -53,7 +53,7 @@ pub(crate) fn has_limit_or_none(body: &Value) -> bool
     }
 }
 
-/// Whether the host's `down` is a truth value, where there is one.
+/// Returns whether the host's `down` is a boolean or missing.
 pub(crate) fn has_truth_or_none(variables: &Value) -> bool
     ensures { result ≡ rules.is_none_or is_truth (get down_key (view variables.now)) }
 {

@@ -1,10 +1,10 @@
-//! What is found in a text.
+//! The result of checking a text.
 ghost use Rattle.std.specs.Prelude.{◌≡◌};
 ghost use Rattle.inventory_read.specs.ToldFaults.{is_empty};
 
 use crate::fault::ReadFault;
 
-/// The first faults of a text, and how many more it has.
+/// The first errors of a text, and how many more it has.
 #[derive(Debug, Drop)]
 pub struct Told {
     pub faults: Vec<ReadFault>,
@@ -12,7 +12,7 @@ pub struct Told {
 }
 
 impl Told {
-    /// Whether the text has no fault.
+    /// Returns whether the text has no error.
     pub(crate) fn is_empty(&self) -> bool
         ensures { result ≡ is_empty self.now }
     {

@@ -1,4 +1,4 @@
-//! Variables as the text gives them.
+//! Variables as given in a document.
 ghost use Rattle.std.specs.Prelude.{◌≡◌, IfOk, map, option_map};
 ghost use Rattle.serde_json.specs.View.{view, members_view};
 ghost use Rattle.group_tree.specs.Scalars.{lent_scalar, lent_variable};
@@ -9,7 +9,7 @@ use group_tree::Scalar;
 use serde_json::{Map, Value};
 use std::alloc::{AllocError, Global};
 
-/// A text, a whole number or a truth value; nothing for any other value.
+/// Returns a string, an integer or a boolean, or `None` for any other value.
 fn scalar_of(value: &Value) -> Option<Scalar<'_>>
     ensures { option_map lent_scalar result ≡ values.scalar_of (view value.now) }
 {
@@ -21,7 +21,7 @@ fn scalar_of(value: &Value) -> Option<Scalar<'_>>
     }
 }
 
-/// The variables that an object defines, in the order of their names.
+/// Returns the variables that an object defines, in name order.
 pub(crate) fn variables_of<'a>(
     scratch: Global,
     object: &'a Map<String, Value>,

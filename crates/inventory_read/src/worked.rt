@@ -1,4 +1,4 @@
-//! The definitions, read against small documents: each clause computes.
+//! The definitions, checked on small documents: each clause computes.
 ghost use Rattle.std.specs.Prelude.{◌≡◌, Some, None, [], ◌∷◌, map, codes};
 ghost use Rattle.group_tree.specs.DownLimits.{Count, Percent};
 ghost use Rattle.group_tree.specs.Places.{Place, Row, row_path};
@@ -23,7 +23,7 @@ pub fn two_racks_are_four_groups()
     ensures unbroken { broken two_racks ≡ [] }
 {}
 
-/// The groups beside `all` come below it, in name order with its own; of two with one name its own is first.
+/// The groups next to `all` are below it, in name order with its own. Of two with the same name, its own is first.
 pub fn groups_beside_all_come_below_it()
     ensures names { map (λ (p : Place). p.name) (inventory_of beside_all).places
         ≡ all_key ∷ codes "a" ∷ codes "b" ∷ codes "b" ∷ codes "c" ∷ codes "d" ∷ [] }
@@ -37,7 +37,7 @@ pub fn three_faults_are_listed()
     ensures { broken three_faults ≡ UnknownKey (codes "all/x") ∷ BadLimit (codes "all/vars/max_down") ∷ TwicePlaced 3 ∷ [] }
 {}
 
-/// Each flaw stands at its path from the top value: a group beside `all` isn't sought below it.
+/// Each error has its path from the top value. The path of a group next to `all` does not contain `all`.
 pub fn flaws_have_their_paths()
     ensures { broken flaws_below ≡ BadDown (codes "all/children/g/hosts/h/down") ∷ BadShape (codes "web/children/x") ∷ [] }
 {}

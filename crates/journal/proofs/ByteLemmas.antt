@@ -1,4 +1,4 @@
--- Lines and words, cut at their bytes.
+-- Lines and words, split at bytes.
 use Rattle.std.proofs.Common.{◌≡◌, ℕ, ◌+◌, ◌^◌, ◌<◌, ◌≤◌, Bool, true, false, not, Option, None, Some, List, [], ◌∷◌, ◌++◌, length, take, drop, get_or, refl, sym, ap, ◌∙◌, arith, append_assoc}
 use Rattle.std.specs.Prelude.{MatchOption, All, codes, decimal}
 use Rattle.std.specs.Borrow.{Bor}
@@ -28,7 +28,7 @@ behind_both bytes digits rest word (Some x) is front = is ∙ ap (λ l. digits +
 abbrev pub NonePasses : (ℕ → Bool) → List ℕ → Type 0
 NonePasses test bytes = All (λ byte. test byte ≡ false) bytes
 
--- where bytes are cut at the first that passes a test
+-- bytes that are split at the first that passes a test
 module _ (test : ℕ → Bool) (bytes : List ℕ) where
   pub cut_within : position_or_len test bytes ≤ length bytes
   cut_within = prefix_len-le-length (λ byte. not (test byte)) bytes
@@ -48,14 +48,14 @@ module _ (test : ℕ → Bool) (bytes : List ℕ) where
       not_false true e = refl
       not_false false e = cc
 
--- behind bytes that don't pass stands one that does
+-- a byte that passes follows bytes that don't
 pub cut_is : (test : ℕ → Bool) (front behind : List ℕ) (byte : ℕ) → NonePasses test front → test byte ≡ true → position_or_len test (front ++ byte ∷ behind) ≡ length front
 cut_is test front behind byte fails passes =
     position_or_len_is test (front ++ byte ∷ behind) (length front) 0 (grind (arith, common_steps))
     (λ k l. ap test (get_or_append_left front (byte ∷ behind) 0 k l) ∙ fails k 0 l)
     (λ l. ap test (get_or_at front byte behind 0 (length front) refl) ∙ passes)
 
--- bytes of which none passes aren't cut
+-- bytes of which none passes aren't split
 pub cut_only : (test : ℕ → Bool) (bytes : List ℕ) → NonePasses test bytes → position_or_len test bytes ≡ length bytes
 cut_only test bytes fails = position_or_len_is test bytes (length bytes) 0 (omega arith) (λ k l. fails k 0 l) (λ l. absurd (omega arith))
 
@@ -64,7 +64,7 @@ after_cut test front behind byte fails passes =
     ap (λ n. drop (n + 1) (front ++ byte ∷ behind)) (cut_is test front behind byte fails passes)
     ∙ ap (drop (length front + 1)) (sym (append_assoc front (byte ∷ []) behind)) ∙ drop_at (front ++ byte ∷ []) behind (length front + 1) (length_push front byte)
 
--- digits are no spaces and no line feeds
+-- digits are neither spaces nor line feeds
 digits_are_dense : (digits : List ℕ) → AllDigits 10 digits → All (λ byte. 48 ≤ byte) digits
 digits_are_dense [] are = All-nil (λ byte. 48 ≤ byte)
 digits_are_dense (digit ∷ digits) are = All-cons (λ byte. 48 ≤ byte) digit digits (omega (arith, digit_from_value digit are.0)) (digits_are_dense digits are.1)

@@ -1,4 +1,4 @@
--- What a changed byte makes of a line.
+-- How a changed byte affects a line.
 use Rattle.std.proofs.Common.{◌≡◌, ℕ, suc, ◌+◌, ◌*◌, ◌^◌, ◌<◌, ◌≤◌, false, ◌⊎◌, inl, inr, List, [], ◌∷◌, ◌++◌, length, take, drop, refl, sym, ap, ◌∙◌, subst, arith, append_assoc, length-append}
 use Rattle.std.specs.Prelude.{codes, decimal}
 use Rattle.std.specs.Char.{digit_value}
@@ -15,7 +15,7 @@ use Rattle.journal.specs.Words.{is_space}
 use Rattle.journal.proofs.ByteLemmas.{NonePasses, after_cut, cut_is}
 use Rattle.journal.proofs.WordLemmas.{decimal_word, no_space}
 
--- two lists are the same but for one place, where they have these
+-- two lists are equal except at one index, where they have these items
 pub record DifferAt (c v : ℕ) (xs ys : List ℕ) : Type 0 where
   pub front : List ℕ
   pub behind : List ℕ
@@ -36,12 +36,12 @@ never_same {c} {v} d differs same =
 pub consed : (x y : ℕ) (xs ys : List ℕ) → x ≡ y → xs ≡ ys → x ∷ xs ≡ y ∷ ys
 consed x y xs ys heads tails = ap (λ h. h ∷ xs) heads ∙ ap (λ t. y ∷ t) tails
 
--- behind one head more
+-- after one more head
 with_heads : (c v x y : ℕ) (a b xs ys : List ℕ) → x ≡ y → (xs ≡ ys) ⊎ ((a ≡ b) × DifferAt c v xs ys) → (xs ≡ ys) ⊎ ((x ∷ a ≡ y ∷ b) × DifferAt c v xs ys)
 with_heads c v x y a b xs ys heads (inl same) = inl same
 with_heads c v x y a b xs ys heads (inr both) = inr (consed x y a b heads both.0, both.1)
 
--- of two parts as long as each other one has the place
+-- if two concatenations with first parts of equal length differ at one index, one of the parts does
 differ_in : (c v : ℕ) (a b xs ys : List ℕ) → length a ≡ length b → DifferAt c v (a ++ xs) (b ++ ys) → (xs ≡ ys) ⊎ ((a ≡ b) × DifferAt c v xs ys)
 differ_in c v [] [] xs ys long d = inr (refl, d)
 differ_in c v [] (y ∷ b) xs ys long d = absurd (omega arith)
@@ -65,7 +65,7 @@ differ_in c v (x ∷ a) (y ∷ b) xs ys long d =
         let y_is : y ≡ z = cc in
         with_heads c v x y a b xs ys (x_is ∙ sym y_is) (later front first second)
 
--- words in front of a space
+-- words before a space
 pub record SameWords (word other rest more : List ℕ) : Type 0 where
   pub words : word ≡ other
   pub behinds : rest ≡ more
@@ -92,7 +92,7 @@ after_both n (digit ∷ front) rest = after_both (n * 10 + digit_value digit) fr
 front_least : (front rest : List ℕ) → digits_value 10 front ≤ digits_value 10 (front ++ rest)
 front_least front rest = subst (λ (n : ℕ). digits_value 10 front ≤ n) (sym (after_both 0 front rest)) (le_after (digits_value 10 front) rest)
 
--- a number of which these are the first digits is no smaller
+-- a number that starts with these digits is no smaller
 longer_number : (m n : ℕ) (rest : List ℕ) → m < 2 ^ 64 → n < 2 ^ 64 → decimal n ≡ decimal m ++ rest → m ≤ n
 longer_number m n rest small little is =
     omega (arith, front_least (decimal m) rest, (decimal_is_IsNumeral m small).1, (decimal_is_IsNumeral n little).1, ap (digits_value 10) is)
@@ -102,7 +102,7 @@ pub record IsSmall (body : List ℕ) : Type 0 where
   pub few : length body < 2 ^ 64
   pub little : weighed 1 body < 2 ^ 64
 
--- what stands before a body
+-- what precedes a body
 abbrev length_text : List ℕ → List ℕ
 length_text body = decimal (length body)
 
@@ -120,7 +120,7 @@ pieces body =
     append_assoc (length_text body) (codes " ") (number_word (weighed 1 body) ++ body)
     ∙ ap (λ l. length_text body ++ 32 ∷ l) (append_assoc (sum_text body) (codes " ") body)
 
--- no line is more than another one
+-- no line is a proper prefix of another one
 pub no_longer : (body other more : List ℕ) → IsSmall body → IsSmall other → line_of other ≡ line_of body ++ more → more ≡ []
 no_longer body other more small little is =
     let whole : line_of body ++ more ≡ length_text body ++ 32 ∷ (sum_text body ++ 32 ∷ (body ++ more)) =
@@ -142,7 +142,7 @@ weighed_differs place [] behind c v some same = by_order (cases_order c v)
     by_order (inr (inr more)) = absurd (omega (arith, mul-le place (suc v) place c (omega arith) (omega arith), mul-suc place v, same))
 weighed_differs place (x ∷ front) behind c v some same = weighed_differs (place + 1) front behind c v (omega arith) (omega (arith, same))
 
--- the part before a space and a longer one without a space
+-- the part before a space, and a longer one without a space
 record IsLonger (word longer rest behind : List ℕ) : Type 0 where
   first : ℕ
   tail : List ℕ
@@ -193,7 +193,7 @@ longer_word c v (w ∷ word) (x ∷ longer) rest behind dense less d =
         let found = later front first second in
         record { first = found.first; tail = found.tail; parts = consed x w longer (word ++ found.first ∷ found.tail) heads found.parts; behinds = found.behinds }
 
--- a longer length can't be made of a line by one byte
+-- one byte can't turn a line into one with a longer length
 no_longer_length : (c v : ℕ) (body other : List ℕ) → IsSmall body → IsSmall other → DifferAt c v (line_of body) (line_of other) → length (length_text body) < length (length_text other) → ⊥
 no_longer_length c v body other small little d less =
     let rest = sum_text body ++ 32 ∷ body in
@@ -217,7 +217,7 @@ no_longer_length c v body other small little d less =
 abbrev space : List ℕ
 space = 32 ∷ []
 
--- no line is another one but for a byte
+-- no two lines differ in exactly one byte
 pub no_change : (c v : ℕ) (body other : List ℕ) → IsSmall body → IsSmall other → (c ≡ v → ⊥) → DifferAt c v (line_of body) (line_of other) → ⊥
 no_change c v body other small little differs d = by_length (cases_order (length (length_text body)) (length (length_text other)))
   where

@@ -1,4 +1,4 @@
--- What is read of a journal of which a byte changed.
+-- What is read of a journal with a changed byte.
 use Rattle.std.proofs.Common.{◌≡◌, ℕ, suc, ◌+◌, ◌-◌, ◌<◌, ◌≤◌, ◌⊎◌, false, inl, inr, Some, List, [], ◌∷◌}
 use Rattle.std.proofs.Common.{◌++◌, length, take, drop, set, get_or, refl, sym, ap, ◌∙◌, subst, arith, append_assoc, length-append}
 use Rattle.std.specs.Prelude.{codes}
@@ -22,7 +22,7 @@ use Rattle.journal.proofs.ReadLemmas.{kept_at_start}
 use Rattle.journal.proofs.StateLemmas.{leads}
 use Rattle.journal.proofs.TextLemmas.{line_bytes, one_cut}
 
--- a byte of a list, and what it is changed to
+-- a byte of a list, and its new value
 pub record IsChanged (line : List ℕ) (place byte : ℕ) : Type 0 where
   pub front : List ℕ
   pub behind : List ℕ
@@ -39,7 +39,7 @@ changed_at line place byte within =
       is = set_split line place byte within ∙ ap (λ n. take place line ++ byte ∷ drop n line) next;
     }
 
--- parts of a line have no line feed
+-- parts of a line without a line feed have none
 feedless_parts : (front behind : List ℕ) (c : ℕ) → HasNoFeed (front ++ c ∷ behind) → HasNoFeed front × HasNoFeed behind
 feedless_parts front behind c none =
     let both = or_parts (list_any is_feed front) (list_any is_feed (c ∷ behind)) (sym (list_any-append is_feed front (c ∷ behind)) ∙ none) in
@@ -50,7 +50,7 @@ feedless_with front behind v other is and =
     let test : is_feed v ≡ false = grind (arith, nat_tests) in
     list_any-append is_feed front (v ∷ behind) ∙ or_from (list_any is_feed front) (list_any is_feed (v ∷ behind)) is (or_from (is_feed v) (list_any is_feed behind) test and)
 
--- a line behind which no line feed stands is a front of the line that does
+-- a line not followed by its line feed is a prefix of the line that is
 longer_line : (line other rest more : List ℕ) (v : ℕ) → HasNoFeed line → HasNoFeed other → (v ≡ 10 → ⊥) → other ++ 10 ∷ more ≡ line ++ v ∷ rest → (tail : List ℕ) × (other ≡ line ++ v ∷ tail)
 longer_line [] [] rest more v is and differs same = absurd (let e : 10 ≡ v = cc in differs (sym e))
 longer_line [] (y ∷ other) rest more v is and differs same = (other, let e : y ≡ v = cc in ap (λ n. n ∷ other) e)
@@ -72,7 +72,7 @@ module _ (fleet : FleetView) (sound : IsSound fleet) (plain : HasPlainNames flee
       let short = body_short fleet sound plain entry is.short in
       record { few = omega arith; little = weighed_small body (line_bytes body (body_line fleet sound plain entry is.fits)) short }
 
-  -- no line of an entry is the changed one, as far as its line feed
+  -- no line of an entry is the changed one, including its line feed
   changed_in : (entry other : Entry) (place byte : ℕ) (text more : List ℕ) → IsEntryLine fleet sound plain entry → IsEntryLine fleet sound plain other → place < length (line_at fleet entry)
       → (byte ≡ get_or (line_at fleet entry) place 0 → ⊥) → line_at fleet other ++ 10 ∷ more ≡ set (line_at fleet entry) place byte ++ 10 ∷ text → ⊥
   changed_in entry other place byte text more is and within differs same =
@@ -107,7 +107,7 @@ module _ (fleet : FleetView) (sound : IsSound fleet) (plain : HasPlainNames flee
       let none = no_longer (entry_body fleet entry) (entry_body fleet other) (byte ∷ found.0) (small_body entry is) (small_body other and) found.1 in
       cc
 
-  -- what is read of the changed text
+  -- what is read of the changed file
   reads_front : (state : JournalState) → IsKept fleet state → (entries others : List Entry) (later other : JournalState) (place byte : ℕ) (torn : List ℕ) → follow fleet state entries ≡ Some later
       → follow fleet state others ≡ Some other → length (entries_text fleet entries) ≤ 16777216 → place < length (entries_text fleet entries) → (byte ≡ get_or (entries_text fleet entries) place 0 → ⊥)
       → set (entries_text fleet entries) place byte ≡ entries_text fleet others ++ torn → HasNoFeed torn → BeginWith entries others

@@ -1,4 +1,4 @@
--- What is read of the fronts of a journal.
+-- What is read of the prefixes of a journal.
 use Rattle.std.proofs.Common.{◌≡◌, ℕ, ◌+◌, ◌-◌, ◌<◌, ◌≤◌, ◌⊎◌, inl, inr, Option, None, Some, List, []}
 use Rattle.std.proofs.Common.{◌∷◌, ◌++◌, length, take, refl, sym, ap, ◌∙◌, subst, arith, append_assoc, length-append, length-take}
 use Rattle.std.specs.Prelude.{codes, option_and_then}
@@ -21,7 +21,7 @@ use Rattle.journal.proofs.ReadLemmas.{kept_at_start}
 use Rattle.journal.proofs.StateLemmas.{leads}
 use Rattle.journal.proofs.TextLemmas.{front_feedless, line_bytes, line_feedless, one_cut, uncut, whole_line}
 
--- the first of some entries, and those behind it
+-- the first of some entries, and those after it
 pub record Follows (fleet : FleetView) (state : JournalState) (entry : Entry) (entries : List Entry) (later : JournalState) : Type 0 where
   pub between : JournalState
   pub first : next fleet state entry ≡ Some between
@@ -42,14 +42,14 @@ entries_same entry first entries others one rest = ap (λ (e : Entry). e ∷ ent
 abbrev pub line_at : FleetView → Entry → List ℕ
 line_at fleet entry = line_of (entry_body fleet entry)
 
--- the text of some entries, and what stands behind it, begins with the line of the first
+-- the text of some entries, and what follows it, starts with the line of the first
 pub first_line_of : (fleet : FleetView) (entry : Entry) (entries : List Entry) (left : List ℕ)
     → entries_text fleet (entry ∷ entries) ++ left ≡ line_at fleet entry ++ 10 ∷ (entries_text fleet entries ++ left)
 first_line_of fleet entry entries left =
     append_assoc (entry_text fleet entry) (entries_text fleet entries) left ∙ append_assoc (line_at fleet entry) (codes "\n") (entries_text fleet entries ++ left)
 
 module _ (fleet : FleetView) (sound : IsSound fleet) (plain : HasPlainNames fleet) where
-  -- the line of an entry, of which a reader takes so many bytes
+  -- the line of an entry that is short enough for a reader
   pub record IsEntryLine (entry : Entry) : Type 0 where
     pub fits : Fits fleet entry
     pub short : length (line_at fleet entry) ≤ 16777216
@@ -67,7 +67,7 @@ module _ (fleet : FleetView) (sound : IsSound fleet) (plain : HasPlainNames flee
     line = line_feedless (line_at fleet entry) (whole_line (entry_body fleet entry) (body_line fleet sound plain entry fits) (body_short entry short));
   }
 
-  -- two entries with one line are one
+  -- two entries with the same line are equal
   pub one_entry : (entry other : Entry) → IsEntryLine entry → IsEntryLine other → line_at fleet entry ≡ line_at fleet other → entry ≡ other
   one_entry entry other is and same =
       let line = line_at fleet entry in
@@ -89,7 +89,7 @@ module _ (fleet : FleetView) (sound : IsSound fleet) (plain : HasPlainNames flee
   rest_short entry entries left short =
       omega (arith, ap length (first_line_of fleet entry entries left), length-append (line_at fleet entry) (10 ∷ (entries_text fleet entries ++ left)))
 
-  -- of one text one list of entries is read
+  -- one file has one list of entries
   one_reading : (state : JournalState) → IsKept fleet state → (entries others : List Entry) (later other : JournalState) (torn left : List ℕ)
       → follow fleet state entries ≡ Some later → follow fleet state others ≡ Some other → HasNoFeed torn → HasNoFeed left
       → length (entries_text fleet entries ++ torn) ≤ 16777216 → entries_text fleet entries ++ torn ≡ entries_text fleet others ++ left → others ≡ entries
@@ -115,7 +115,7 @@ module _ (fleet : FleetView) (sound : IsSound fleet) (plain : HasPlainNames flee
       (subst (λ (s : JournalState). follow fleet s others ≡ Some other) between off.others) feedless none (rest_short entry entries torn short) cut.behinds in
       entries_same first entry others entries (sym one) rest
 
-  -- and no line of it is bad
+  -- and no line of it is rejected
   no_bad : (state : JournalState) → IsKept fleet state → (entries others : List Entry) (later other : JournalState) (torn bad behind : List ℕ)
       → follow fleet state entries ≡ Some later → follow fleet state others ≡ Some other → HasNoFeed torn → HasNoFeed bad
       → length (entries_text fleet entries ++ torn) ≤ 16777216 → entries_text fleet entries ++ torn ≡ entries_text fleet others ++ (bad ++ 10 ∷ behind) → IsNoNext fleet other bad → ⊥
@@ -147,7 +147,7 @@ module _ (fleet : FleetView) (sound : IsSound fleet) (plain : HasPlainNames flee
       no_bad on.between (leads fleet state kept entry on.between on.first).keeps entries others later other torn bad behind on.others
       (subst (λ (s : JournalState). follow fleet s others ≡ Some other) between off.others) feedless none (rest_short entry entries torn short) cut.behinds never
 
-  -- the whole lines of a front
+  -- the complete lines of a prefix
   record IsFront (state : JournalState) (entries : List Entry) (text : List ℕ) : Type 0 where
     whole : List Entry
     rest : List Entry

@@ -1,4 +1,4 @@
--- The entry of a body that one says is found.
+-- The entry of a valid body is found.
 use Rattle.std.proofs.Common.{◌≡◌, ℕ, ◌-◌, ◌<◌, ◌≤◌, Bool, true, false, ◌&&◌, cond, nat_le, nat_lt, Option, None, Some}
 use Rattle.std.proofs.Common.{option_map, List, [], ◌∷◌, ◌++◌, length, map, take, get_or, refl, sym, ap, ◌∙◌, arith, append_assoc, length-append}
 use Rattle.std.specs.Prelude.{All, codes, decimal, flat_map, option_and_then, if◌then◌else◌}
@@ -86,7 +86,7 @@ number_only front n small is =
 three_fields : (a x b y c z end : List ℕ) → ((a ++ x) ++ 32 ∷ ((b ++ y) ++ 32 ∷ (c ++ z))) ++ end ≡ a ++ (x ++ 32 ∷ (b ++ (y ++ 32 ∷ (c ++ (z ++ end)))))
 three_fields a x b y c z end = simp append_assoc
 
--- too many failed
+-- too many hosts failed
 unfoldable pub too_many_fields : ℕ → ℕ → ℕ → List ℕ
 too_many_fields step failed size = (codes "step=" ++ decimal step) ++ 32 ∷ ((codes "failed=" ++ decimal failed) ++ 32 ∷ (codes "size=" ++ decimal size))
 
@@ -143,7 +143,7 @@ head_says head is =
     (ap (field (codes "playbook=")) one ∙ field_at (codes "playbook=") head.playbook last second_is)
     (ap (number_field (codes "plays=")) two ∙ number_only (codes "plays=") head.plays plays refl)
 
--- what each word says
+-- the value of each word
 each_says : {X : Type 0} (read : List ℕ → Option X) (word : X → List ℕ) (Good : X → Type 0) → ((item : X) → Good item → read (word item) ≡ Some item)
     → (items : List X) → All Good items → each read (map word items) ≡ Some items
 each_says read word Good says [] good = refl
@@ -205,7 +205,7 @@ module _ (fleet : FleetView) (sound : IsSound fleet) (plain : HasPlainNames flee
   hosts_say : (hosts : List ℕ) → AreHosts fleet hosts → each (host_in fleet) (map (host_at fleet.hosts) hosts) ≡ Some hosts
   hosts_say hosts are = each_says (host_in fleet) (host_at fleet.hosts) (λ host. host < length fleet.hosts) host_says hosts are
 
-  -- what became of hosts
+  -- the outcomes of hosts
   pub outcome_word : Outcome → List ℕ
   outcome_word outcome = state_word outcome.status ++ (codes ":" ++ host_at fleet.hosts outcome.host)
 

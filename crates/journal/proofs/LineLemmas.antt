@@ -1,4 +1,4 @@
--- Lines that tell whether they are whole.
+-- Lines with a length and a checksum.
 use Rattle.std.proofs.Common.{◌≡◌, ◌⊎◌, ◌-◌, inl, inr, refl, ℕ, suc, ◌+◌, ◌*◌, ◌^◌, ◌<◌, ◌≤◌, List, [], ◌∷◌, ◌++◌, length, get_or, sym, ap, ◌∙◌, subst, arith, append_assoc, length-append}
 use Rattle.std.specs.Prelude.{codes, decimal}
 use Rattle.std.proofs.lemmas.List.{get_or-append-add}
@@ -21,7 +21,7 @@ weighed_within place (byte ∷ bytes) are within =
 pub weighed_small : (bytes : List ℕ) → AreBytes bytes → length bytes ≤ 16777216 → weighed 1 bytes < 2 ^ 64
 weighed_small bytes are within = omega (arith, weighed_within 1 bytes are (omega arith))
 
--- the body of a line, found behind its second space
+-- the body of a line, found after its second space
 pub record IsFound (line body : List ℕ) : Type 0 where
   pub within : length body ≤ length line
   pub bytes : AreBytes body
@@ -42,7 +42,7 @@ body_found line body are within is =
           ∙ behind_number_word (weighed 1 body) body (weighed_small body bytes (omega arith));
     }
 
--- a line whose front isn't that of what stands behind its second space is none
+-- a line is invalid if its start doesn't match what follows its second space
 pub no_line : (line found : List ℕ) → AreBytes line → length line ≤ 16777216 → found ≡ behind_space (behind_space line)
     → (line ≡ line_of found → ⊥) → IsNoLine line
 no_line line found are within is otherwise body e =
@@ -52,7 +52,7 @@ pub line_pieces : (body : List ℕ) (sum : ℕ) → sum ≡ weighed 1 body
     → decimal (length body) ++ (codes " " ++ (decimal sum ++ (codes " " ++ (body ++ codes "\n")))) ≡ line_text body
 line_pieces body sum is = rw is (simp append_assoc)
 
--- one line more
+-- one more line
 pub lines_more : (text left front behind : List ℕ) → IsBehindLines text left → IsCut left front behind → IsBehindLines text behind
 lines_more text left front behind so_far cut =
     let lines : List ℕ = (so_far.lines ++ front) ++ 10 ∷ [] in

@@ -1,4 +1,4 @@
--- Hosts that are up by now, one after the other.
+-- Hosts that are back up, in sequence.
 use Rattle.std.proofs.Common.{◌≡◌, ℕ, ◌+◌, ◌≤◌, ◌<◌, List, length, get_or, set, take, sym, ap, ◌∙◌, refl, inl, inr, ◌⊎◌, arith}
 use Rattle.std.proofs.lemmas.Bool.{cases_lt}
 use Rattle.std.proofs.lemmas.List.{set_past}
@@ -20,7 +20,7 @@ stood_again Halted = refl
 stood_again Off = refl
 stood_again Held = refl
 
--- one host more, whether it is there or not
+-- one more host, whether or not it exists
 pub mended_more : (hosts : List HostId) (i : ℕ) (d : HostId) → i < length hosts → (statuses now : List Status) → now ≡ mended (take i (host_numbers hosts)) statuses
     → set now (get_or hosts i d).index (stood_up (status_at now (get_or hosts i d).index)) ≡ mended (take (i + 1) (host_numbers hosts)) statuses
 mended_more hosts i d within statuses now is =

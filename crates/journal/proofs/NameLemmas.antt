@@ -1,4 +1,4 @@
--- What words say: a host, a group, a number.
+-- The values of words: a host, a group, a number.
 use Rattle.std.proofs.Common.{◌≡◌, ℕ, ◌<◌, Bool, true, false, ◌&&◌, nat_eq, Option, None, Some, option_map, List, [], length, sym, refl, ap, ◌∙◌, subst, arith}
 use Rattle.std.specs.Prelude.{MatchOption, if◌then◌else◌}
 use Rattle.std.specs.List.{position, position_or_len}
@@ -15,7 +15,7 @@ use Rattle.domains.specs.Numbered.{host_at}
 use Rattle.journal.specs.Guesses.{group_in, host_in, number_in}
 use Rattle.journal.specs.States.{most_number}
 
--- what `Fleet::host` says of the host that it finds
+-- what `Fleet::host` guarantees about the host it finds
 abbrev pub IsHostOf : FleetView → Name → HostId → Type 0
 IsHostOf fleet name host =
     (host.index < length fleet.hosts) × (host_at fleet.hosts host.index ≡ name)

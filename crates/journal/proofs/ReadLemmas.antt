@@ -72,7 +72,7 @@ module _ (fleet : FleetView) (sound : IsSound fleet) (state : JournalState) (kep
     leads = sym answer;
   }
 
--- what is left of a text whose first lines are those of entries that lead to a state
+-- the rest of a file whose first lines are those of entries that lead to a state
 pub record IsReadTo (fleet : FleetView) (text left : List ℕ) (state : JournalState) (line : ℕ) : Type 0 where
   pub entries : List Entry
   pub parts : text ≡ entries_text fleet entries ++ left

@@ -1,4 +1,4 @@
--- Entries in words.
+-- Encoding entries.
 use Rattle.std.proofs.Common.{◌≡◌, ℕ, ◌≤◌, List, [], ◌∷◌, ◌++◌, length, map, take, refl, ap, ◌∙◌}
 use Rattle.std.specs.Prelude.{flat_map}
 use Rattle.std.proofs.lemmas.List.{take_all}
@@ -17,7 +17,7 @@ pub spread_all : {X Y : Type 0} (piece : Y → List ℕ) (shown : X → Y) (item
     → flat_map (λ item. piece (shown item)) (take count items) ≡ flat_map piece (map shown items)
 spread_all piece shown items count all = ap (flat_map (λ item. piece (shown item))) (take_all count items all) ∙ spread piece shown items
 
--- what became of a batch, as it is lent and by numbers
+-- the outcomes of a batch, as borrowed values and by numbers
 pub same_outcomes : (statuses : List Status) (batch : List HostId) → shown_outcomes (map (lent_outcome statuses) batch) ≡ outcomes_of statuses (host_numbers batch)
 same_outcomes statuses [] = refl
 same_outcomes statuses (host ∷ batch) = ap (λ (rest : List Outcome). outcome_at statuses host.index ∷ rest) (same_outcomes statuses batch)

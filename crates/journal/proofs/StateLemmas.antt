@@ -1,4 +1,4 @@
--- Where entries lead.
+-- The states that entries lead to.
 use Rattle.std.proofs.Common.{◌≡◌, ℕ, suc, ◌<◌, Bool, true, false, ◌&&◌, ◌==◌, cond, Option, None, Some, option_map, List, [], ◌∷◌, length, set, refl, sym, ap, ◌∙◌, subst}
 use Rattle.std.specs.Prelude.{All, is_some, nat_lt}
 use Rattle.std.proofs.lemmas.Bool.{and_parts, eqb-true, ltb-true}
@@ -15,7 +15,7 @@ use Rattle.fleet_states.proofs.StatusLemmas.{length-changed}
 use Rattle.journal.specs.States.{JournalState, are_hosts, at_rest, begins, closes, ends, has_status, holds, is_between, is_head, is_in_batch, is_over, may_begin, may_end, mended, moved, next, opens, plays, resumes, settled, stood_up}
 use Rattle.journal.specs.Fits.{AreHosts, Fits, IsKept, IsOutcome}
 
--- a batch isn't over by what became of more or fewer hosts
+-- a batch isn't closed by the outcomes of more or fewer hosts
 pub unsettled : (hosts : List ℕ) (outcomes : List Outcome) (statuses : List Status) → (length hosts ≡ length outcomes → ⊥) → settled hosts outcomes statuses ≡ None
 unsettled [] [] statuses other = absurd (other refl)
 unsettled [] (outcome ∷ outcomes) statuses other = refl
@@ -28,7 +28,7 @@ unsettled (host ∷ hosts) (outcome ∷ outcomes) statuses other =
     by_test true later none = none
     by_test false later none = refl
 
--- what a test guards is given only where it passes
+-- a guarded value is present only if the test passes
 pub guarded : {X : Type 0} (test : Bool) (answer : Option X) (given : X) → cond test answer None ≡ Some given → (test ≡ true) × (answer ≡ Some given)
 guarded true answer given e = (refl, e)
 guarded false answer given e = absurd (cc)

@@ -1,4 +1,4 @@
--- The bytes of entries: no line feed stands in a line.
+-- The bytes of entries: no line contains a line feed.
 use Rattle.std.proofs.Common.{◌≡◌, ℕ, ◌<◌, ◌≤◌, ◌^◌, Bool, true, false, ◌||◌, ◌&&◌, nat_le, List, [], ◌∷◌, ◌++◌, length, take, get_or, refl, sym, ap, ◌∙◌, arith}
 use Rattle.std.specs.Prelude.{codes, decimal}
 use Rattle.std.specs.List.{after_first, list_all, list_any, position_or_len}
@@ -46,7 +46,7 @@ spaced_line (word ∷ words) are =
 pub number_line : (n : ℕ) → n < 2 ^ 64 → is_line (number_word n) ≡ true
 number_line n small = line_both (decimal n) (codes " ") (word_line (decimal n) (decimal_word n small)) refl
 
--- a line of a body that has no line feed has none
+-- the line of a body without a line feed has none
 pub whole_line : (body : List ℕ) → is_line body ≡ true → length body ≤ 16777216 → is_line (line_of body) ≡ true
 whole_line body is short =
     line_both (number_word (length body)) (number_word (weighed 1 body) ++ body) (number_line (length body) (omega arith))
@@ -58,7 +58,7 @@ fails_all test [] none = All-nil (λ byte. test byte ≡ false)
 fails_all test (byte ∷ bytes) none =
     let both = or_parts (test byte) (list_any test bytes) none in All-cons (λ b. test b ≡ false) byte bytes both.0 (fails_all test bytes both.1)
 
--- the first line feed parts bytes in one way
+-- bytes have only one split at the first line feed
 pub record SameParts (front other behind rest : List ℕ) : Type 0 where
   pub fronts : front ≡ other
   pub behinds : behind ≡ rest
@@ -75,7 +75,7 @@ one_cut front other behind rest is and same =
       behinds = sym (after_cut is_feed front behind 10 (fails_all is_feed front is) refl) ∙ ap (after_first is_feed) same ∙ after_cut is_feed other rest 10 (fails_all is_feed other and) refl;
     }
 
--- where there is none, there is no line
+-- without a line feed there is no line
 pub uncut : (bytes front behind : List ℕ) → HasNoFeed bytes → bytes ≡ front ++ 10 ∷ behind → ⊥
 uncut bytes front behind none is =
     let has : list_any is_feed (front ++ 10 ∷ behind) ≡ true = list_any-append is_feed front (10 ∷ behind) ∙ either (list_any is_feed front) in

@@ -77,14 +77,14 @@ digits_word (digit ∷ digits) are =
 pub decimal_word : (n : ℕ) → n < 2 ^ 64 → is_word (decimal n) ≡ true
 decimal_word n small = digits_word (decimal n) (decimal_is_IsNumeral n small).0.1
 
--- the first word and what stands behind it
+-- the first word and what follows it
 pub first_word_at : (word rest : List ℕ) → is_word word ≡ true → first_word (word ++ 32 ∷ rest) ≡ word
 first_word_at word rest is = ap (λ n. take n (word ++ 32 ∷ rest)) (cut_is is_space word rest 32 (no_space word is) refl) ∙ take_at word (32 ∷ rest) (length word) refl
 
 pub behind_word_at : (word rest : List ℕ) → is_word word ≡ true → behind_space (word ++ 32 ∷ rest) ≡ rest
 behind_word_at word rest is = after_cut is_space word rest 32 (no_space word is) refl
 
--- words, each behind a space
+-- words, each after a space
 abbrev pub spaced : List (List ℕ) → List ℕ
 spaced words = flat_map (λ word. codes " " ++ word) words
 

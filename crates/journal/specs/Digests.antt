@@ -1,8 +1,8 @@
--- Digests of texts.
+-- Digests of files.
 use Rattle.std.specs.Prelude.{ℕ, List}
 use Rattle.hex.specs.Hex.{encode_lower}
 use Rattle.sha2.specs.Sha256.{sha256}
 
--- the SHA-256 of a text, as 64 digits
+-- the SHA-256 of the bytes, as 64 digits
 abbrev pub digest_of : List ℕ → List ℕ
 digest_of text = encode_lower (sha256 text)

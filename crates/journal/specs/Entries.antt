@@ -1,4 +1,4 @@
--- What a journal says, entry by entry, and the bytes of it.
+-- The entries of a journal, and their bytes.
 use Rattle.std.specs.Prelude.{ℕ, ◌-◌, ◌&&◌, ◌||◌, Bool, nat_le, nat_eq, List, ◌++◌, codes, flat_map, length, take}
 use Rattle.std.specs.List.{list_all}
 use Rattle.domains.specs.FleetViews.{FleetView}
@@ -10,19 +10,20 @@ use Rattle.recap.specs.PlanText.{names_line}
 use Rattle.recap.specs.RecapText.{ended_line, state_word}
 use Rattle.journal.specs.Lines.{line_text}
 
--- which run it is: of an inventory and a playbook, by the digests of their texts, and how many plays that has
+-- which run it is: the digests of its inventory and playbook files, and how many plays the playbook has
 pub record Head : Type 0 where
   pub inventory : List ℕ
   pub playbook : List ℕ
   pub plays : ℕ
 
--- what became of a host
+-- the outcome of a host
 pub record Outcome : Type 0 where
   pub host : ℕ
   pub status : Status
 
--- what a run says: which it is; that a play begins, and who waits; who is set aside; that a batch of these opens; what became of its hosts; how the play ended; and of one that
--- was broken off that it is resumed, where these hosts are up by now; and that the play in which it broke off goes on, and who waits
+-- the entries of a run: which run it is; a play starts, and these hosts wait; these hosts are held; a batch of these hosts opens; the
+-- outcomes of its hosts; how the play ended; an interrupted run is resumed, with these hosts back up; and the interrupted play continues,
+-- and these hosts wait
 pub data Entry : Type 0 where
   begun : Head → Entry
   play : List ℕ → Entry
@@ -46,7 +47,7 @@ outcome_text fleet outcome = codes " " ++ (state_word outcome.status ++ (codes "
 abbrev pub closed_line : FleetView → List Outcome → List ℕ
 closed_line fleet outcomes = codes "closed:" ++ (flat_map (outcome_text fleet) outcomes ++ codes "\n")
 
--- an entry in words, with its line feed
+-- an entry encoded as words, with its line feed
 abbrev pub said : FleetView → Entry → List ℕ
 said fleet (begun head) = head_line head
 said fleet (play hosts) = names_line (codes "play:") fleet hosts

@@ -1,4 +1,4 @@
--- Entries that a run of a fleet may have at some place.
+-- Entries that a run of a fleet can have at some point.
 use Rattle.std.specs.Prelude.{◌≡◌, ◌<◌, ℕ, true, Some, List, All, length}
 use Rattle.domains.specs.FleetViews.{FleetView}
 use Rattle.journal.specs.Entries.{Entry, Outcome, again, begun, closed, ended, entry_body, held, opened, play, resumed}
@@ -22,7 +22,7 @@ Fits fleet (ended end) = may_end fleet end ≡ true
 Fits fleet (resumed hosts) = AreHosts fleet hosts
 Fits fleet (again hosts) = AreHosts fleet hosts
 
--- there is a status for each host, and the open batch is of hosts
+-- there is a status for each host, and the open batch consists of hosts
 pub record IsKept (fleet : FleetView) (state : JournalState) : Type 0 where
   pub all : length state.statuses ≡ length fleet.hosts
   pub batch : AreHosts fleet state.open_batch
@@ -31,7 +31,7 @@ pub record IsKept (fleet : FleetView) (state : JournalState) : Type 0 where
 abbrev pub IsNoBody : FleetView → List ℕ → Type 0
 IsNoBody fleet body = HasPlainNames fleet → (entry : Entry) → Fits fleet entry → body ≡ entry_body fleet entry → ⊥
 
--- the body is that of the entry that it may say
+-- the body is that of the entry it may encode
 pub record IsEntryOf (fleet : FleetView) (body : List ℕ) (entry : Entry) : Type 0 where
   pub says : body ≡ entry_body fleet entry
   pub found : entry_in fleet body ≡ Some entry

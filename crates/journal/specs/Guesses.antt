@@ -1,4 +1,4 @@
--- The entry that a line's body may say. Whether it does is seen when the entry is said again.
+-- The entry that a line's body may encode. Encoding the entry again shows whether it does.
 use Rattle.std.specs.Prelude.{ℕ, Bool, ◌||◌, ◌&&◌, Option, None, Some, option_map, option_and_then, List, [], ◌∷◌, codes, position, if◌then◌else◌}
 use Rattle.std.specs.List.{before_first, position_or_len}
 use Rattle.std.specs.Option.{option_or}
@@ -20,7 +20,7 @@ use Rattle.journal.specs.Inside.{behind_space, stripped}
 abbrev pub first_word : List ℕ → List ℕ
 first_word bytes = before_first is_space bytes
 
--- what the first word says, where it begins so
+-- what follows the prefix in the first word, if the word starts with it
 abbrev pub field : List ℕ → List ℕ → Option (List ℕ)
 field front bytes = stripped front (first_word bytes)
 
@@ -30,20 +30,20 @@ number_in digits = if is_utf8 digits then number_in_digits 5 most_number digits 
 abbrev pub number_field : List ℕ → List ℕ → Option ℕ
 number_field front bytes = option_and_then number_in (field front bytes)
 
--- the host of a name
+-- the host of this name
 abbrev pub host_in : FleetView → List ℕ → Option ℕ
 host_in fleet name = if is_utf8 name && is_among name fleet.hosts then Some (position_or_len (same_name name) fleet.hosts) else None
 
--- the group of a name
+-- the group of this name
 abbrev pub group_in : FleetView → List ℕ → Option ℕ
 group_in fleet name = if is_utf8 name then position (same_name name) fleet.groups else None
 
--- what each word says, where all of them say something
+-- the value of each word, if all of them have one
 abbrev pub each : {X : Type 0} → (List ℕ → Option X) → List (List ℕ) → Option (List X)
 each read [] = Some []
 each read (word ∷ words) = option_and_then (λ first. option_map (λ rest. first ∷ rest) (each read words)) (read word)
 
--- a host of which this became
+-- the outcome with this status of the host of this name
 abbrev pub outcome_by : FleetView → Status → List ℕ → Option Outcome
 outcome_by fleet status word =
     option_map (λ host. let outcome : Outcome = record { host = host; status = status } in outcome)
@@ -53,7 +53,7 @@ abbrev pub outcome_in : FleetView → List ℕ → Option Outcome
 outcome_in fleet word =
     option_or (outcome_by fleet status.Updated word) (option_or (outcome_by fleet status.Failed word) (outcome_by fleet status.Halted word))
 
--- which run it is, behind the first words of a journal
+-- which run it is, after the first words of a journal
 abbrev pub head_with : List ℕ → List ℕ → ℕ → Head
 head_with inventory playbook plays = record { inventory = inventory; playbook = playbook; plays = plays }
 
@@ -65,7 +65,7 @@ head_of fields =
 abbrev pub head_in : List ℕ → Option Head
 head_in body = option_and_then head_of (stripped (codes "rollout journal 1 ") body)
 
--- the play ended since too many failed
+-- the play ended because too many hosts failed
 abbrev pub too_many_of : List ℕ → Option End
 too_many_of fields =
     option_and_then (λ step. option_and_then (λ failed. option_map (ending.TooManyFailed step failed) (number_field (codes "size=") (behind_space (behind_space fields))))

@@ -1,4 +1,4 @@
--- What is written of statuses.
+-- What is recorded of statuses.
 use Rattle.std.specs.Prelude.{ℕ, List, length, map}
 use Rattle.fleet_index.specs.NumberLists.{numbers_where}
 use Rattle.fleet_states.specs.declared.status.Status.{Status}
@@ -12,6 +12,6 @@ waiting_hosts statuses = numbers_where (λ host. is_waiting (status_at statuses 
 abbrev pub outcome_at : List Status → ℕ → Outcome
 outcome_at statuses host = record { host = host; status = status_at statuses host }
 
--- what became of the hosts of a batch
+-- the outcomes of the hosts of a batch
 abbrev pub outcomes_of : List Status → List ℕ → List Outcome
 outcomes_of statuses batch = map (outcome_at statuses) batch

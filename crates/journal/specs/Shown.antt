@@ -1,4 +1,4 @@
--- Entries and states as they are kept.
+-- Entries and states as they are stored.
 use Rattle.std.specs.Prelude.{List, map, option_map}
 use Rattle.domains.specs.Ids.{host_numbers}
 use Rattle.group_tree.specs.declared.ids.HostId.{HostId}

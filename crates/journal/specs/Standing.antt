@@ -1,4 +1,4 @@
--- What is told of where a run stands.
+-- What is reported about the state of a run.
 use Rattle.std.specs.Prelude.{ℕ, Bool, Option, Some, None, List, [], ◌++◌, codes, flat_map, length, if◌then◌else◌}
 use Rattle.std.specs.List.{range_with_len}
 use Rattle.domains.specs.FleetViews.{FleetView}
@@ -9,7 +9,7 @@ use Rattle.play_forecast.specs.declared.end.End.{End}
 use Rattle.recap.specs.RecapText.{ended_line, state_word}
 use Rattle.journal.specs.States.{JournalState, is_idle, is_one_more}
 
--- how a run has ended: as its last play; it has not where that has no end, or finished and there are plays to come
+-- how a run has ended: as its last play; it has not ended if that has no end, or has finished and there are plays to come
 abbrev pub run_end : JournalState → Option End
 run_end state = if is_one_more state then None else state.end
 
@@ -21,7 +21,7 @@ state_line fleet host status = if is_idle status then [] else host_at fleet.host
 abbrev pub state_lines : FleetView → List Status → List ℕ
 state_lines fleet statuses = flat_map (λ host. state_line fleet host (status_at statuses host)) (range_with_len 0 (length fleet.hosts))
 
--- a run that has not ended goes on, or was broken off
+-- a run that has not ended is running, or was interrupted
 abbrev pub endless_text : Bool → List ℕ
 endless_text goes_on = if goes_on then codes "end running\n" else codes "end broken-off\n"
 

@@ -1,4 +1,4 @@
--- Where a run stands behind entries of its journal.
+-- The state of a run after the entries of its journal.
 use Rattle.std.specs.Prelude.{ℕ, suc, Bool, true, false, ◌&&◌, ◌||◌, ◌==◌, nat_le, nat_lt, not}
 use Rattle.std.specs.Prelude.{Option, None, Some, is_none, is_some, option_map, option_and_then, List, [], ◌∷◌, ◌++◌, filter, length, map, slice_set, if◌then◌else◌}
 use Rattle.fleet_index.specs.NumberLists.{are_below}
@@ -12,8 +12,8 @@ use Rattle.play_forecast.specs.declared.end.End.{End}
 use Rattle.play_forecast.specs.declared.end.End.TheVariants as ending
 use Rattle.journal.specs.Entries.{Entry, Head, Outcome, again, begun, closed, ended, held, is_digest, opened, play, resumed}
 
--- which run it is; which of its plays has begun last, from 1, and none with 0; the statuses of the hosts; the batch that is open, and nobody where none is;
--- how the play has ended, if it has; who has been mended since the play began, behind work of it
+-- which run it is; the play that started last, from 1, or 0; the statuses of the hosts; the open batch, or no hosts; how the play has
+-- ended, if it has; and the hosts that worked in the play and are back up since
 pub record JournalState : Type 0 where
   pub head : Option Head
   pub play : ℕ
@@ -36,7 +36,7 @@ is_idle Halted = false
 is_idle Off = false
 is_idle Held = false
 
--- the status is that of the three from which hosts are moved
+-- hosts may be moved from this status: one of three, and they have it
 abbrev pub stands : Status → Status → Bool
 stands Idle status = is_idle status
 stands Waiting status = is_waiting status
@@ -51,13 +51,13 @@ stands Held status = false
 abbrev pub has_status : Status → List Status → ℕ → Bool
 has_status status statuses host = nat_lt host (length statuses) && stands status (status_at statuses host)
 
--- the hosts go from a status to another, one behind the other; one that stands twice, or has another status, refuses it
+-- the hosts move from one status to another in order; fails at a host that is named twice, or has another status
 abbrev pub moved : Status → Status → List ℕ → List Status → Option (List Status)
 moved before after [] statuses = Some statuses
 moved before after (host ∷ hosts) statuses =
     if has_status before statuses host then moved before after hosts (slice_set statuses host after) else None
 
--- what may become of a host of a batch
+-- a final status of a host in a batch
 abbrev pub is_over : Status → Bool
 is_over Idle = false
 is_over Waiting = false
@@ -68,7 +68,7 @@ is_over Halted = true
 is_over Off = false
 is_over Held = false
 
--- the batch is over: these are its hosts, in its order, and what became of them
+-- the batch has ended: these are its hosts, in order, with their outcomes
 abbrev pub settled : List ℕ → List Outcome → List Status → Option (List Status)
 settled [] [] statuses = Some statuses
 settled [] (outcome ∷ outcomes) statuses = None
@@ -84,7 +84,7 @@ is_finished (Some (ending.Blocked group)) = false
 is_finished (Some (ending.TooManyFailed step failed size)) = false
 is_finished (Some ending.AllFailed) = false
 
--- how many plays there are; none where the run isn't known
+-- how many plays there are, or 0 if the run isn't known
 abbrev pub plays_of : Option Head → ℕ
 plays_of None = 0
 plays_of (Some head) = head.plays
@@ -93,16 +93,16 @@ plays_of (Some head) = head.plays
 abbrev pub may_begin : JournalState → Bool
 may_begin state = nat_lt state.play (plays_of state.head) && ((state.play == 0) || is_finished state.end)
 
--- nobody stands in the list
+-- the list is empty
 abbrev pub is_nobody : List ℕ → Bool
 is_nobody [] = true
 is_nobody (host ∷ hosts) = false
 
--- a play has begun and has not ended
+-- a play has started and has not ended
 abbrev pub is_under_way : JournalState → Bool
 is_under_way state = nat_lt 0 state.play && is_none state.end
 
--- that, and no batch is open
+-- likewise, and no batch is open
 abbrev pub is_between : JournalState → Bool
 is_between state = is_under_way state && is_nobody state.open_batch
 
@@ -114,7 +114,7 @@ most_number = 65535
 abbrev pub is_in_batch : JournalState → Bool
 is_in_batch state = is_under_way state && not (is_nobody state.open_batch)
 
--- a play of this fleet may end so
+-- a play of this fleet can end this way
 abbrev pub may_end : FleetView → End → Bool
 may_end fleet ending.Finished = true
 may_end fleet ending.Held = true
@@ -126,19 +126,20 @@ may_end fleet ending.AllFailed = true
 abbrev pub are_hosts : FleetView → List ℕ → Bool
 are_hosts fleet hosts = are_below (length fleet.hosts) hosts
 
--- a run says first which it is
+-- a run first records which run it is
 abbrev pub is_head : Head → Bool
 is_head head = (is_digest head.inventory && is_digest head.playbook) && nat_le head.plays most_number
 
--- the host is up, where it was down
+-- the status of a host that is back up
 abbrev pub stood_up : Status → Status
 stood_up status = if is_down status then Idle else status
 
--- these hosts are up again
+-- these hosts are back up
 abbrev pub mended : List ℕ → List Status → List Status
 mended hosts statuses = changed stood_up hosts statuses
 
--- a host whose run was broken off: where it was at work it may be down, and stays so; it waits no more; what became of it before that stays
+-- the status of a host after its run was interrupted: if it was running it may be down, and is halted; it no longer waits; a final status
+-- stays
 abbrev pub at_rest : Status → Status
 at_rest Idle = Idle
 at_rest Waiting = Idle
@@ -149,7 +150,7 @@ at_rest Halted = Halted
 at_rest Off = Off
 at_rest Held = Idle
 
--- the hosts of a run that was broken off, where these are up by now
+-- the hosts of an interrupted run, with these back up
 abbrev pub rested : List ℕ → List Status → List Status
 rested hosts statuses = map at_rest (mended hosts statuses)
 
@@ -157,11 +158,11 @@ rested hosts statuses = map at_rest (mended hosts statuses)
 abbrev pub is_one_more : JournalState → Bool
 is_one_more state = is_finished state.end && nat_lt state.play (plays_of state.head)
 
--- a run that is resumed has no end, but for that of a play behind which the next one comes
+-- a resumed run has no end, unless its last play has finished and the next one follows
 abbrev pub resumed_end : JournalState → Option End
 resumed_end state = if is_one_more state then state.end else None
 
--- the host has failed, or was at work
+-- the host has failed, was halted, or was running
 abbrev pub is_tried : Status → Bool
 is_tried Idle = false
 is_tried Waiting = false
@@ -172,7 +173,8 @@ is_tried Halted = true
 is_tried Off = false
 is_tried Held = false
 
--- who owes the handlers of the play that goes on: those of these that have failed or were at work, and who owed them before; behind a finished play nobody does
+-- the hosts that owe the handlers of the play that continues: those of these that have failed, were halted or were running, and those that
+-- owed them before; none after a finished play
 abbrev pub owing_with : JournalState → List ℕ → List ℕ
 owing_with state hosts = if is_one_more state then [] else state.owing ++ filter (λ host. is_tried (status_at state.statuses host)) hosts
 
@@ -197,7 +199,7 @@ closes state statuses = record state { statuses = statuses; open_batch = [] }
 abbrev pub ends : JournalState → End → JournalState
 ends state end = record state { end = Some end }
 
--- where an entry leads, if it may come
+-- the state after an entry, if it may come there
 abbrev pub next : FleetView → JournalState → Entry → Option JournalState
 next fleet state (begun head) = if is_none state.head && is_head head then Some (begins state head) else None
 next fleet state (play hosts) =
@@ -211,11 +213,11 @@ next fleet state (ended end) = if is_between state && may_end fleet end then Som
 next fleet state (resumed hosts) = if is_some state.head && are_hosts fleet hosts then Some (resumes state hosts) else None
 next fleet state (again hosts) = if is_between state then option_map (holds state) (moved Idle Waiting hosts state.statuses) else None
 
--- where entries lead from there, if they may come so
+-- the state after entries from there on, if they may come there
 abbrev pub follow : FleetView → JournalState → List Entry → Option JournalState
 follow fleet state [] = Some state
 follow fleet state (entry ∷ entries) = option_and_then (λ later. follow fleet later entries) (next fleet state entry)
 
--- where the entries of a journal lead, if a run can have them
+-- the state after the entries of a journal, if a run can have them
 abbrev pub state_after : FleetView → List Entry → Option JournalState
 state_after fleet entries = follow fleet (start fleet) entries

@@ -1,4 +1,4 @@
-//! Lines that tell whether they are whole.
+//! Lines with a length and a checksum.
 ghost use Rattle.std.specs.Prelude.{◌≡◌, ◌<◌, ◌≤◌, ◌++◌, ◌^◌, MatchOption, decimal, length};
 ghost use Rattle.bounded_io.specs.Writing.{Writes};
 ghost use Rattle.journal.specs.Lines.{line_of, line_text, max_body, number_word, weighed};
@@ -13,7 +13,7 @@ use std::io::Write;
 /// The most bytes of a line's body.
 pub(crate) const MAX_BODY: usize = 16_777_216;
 
-/// The sum of the bytes, each times its place, counted from 1.
+/// Returns the sum of the bytes, each multiplied by its position, counted from 1.
 fn weigh(bytes: &[u8]) -> u64
     requires { length bytes.now ≤ MAX_BODY }
     ensures { result ≡ weighed 1 bytes.now }
@@ -25,7 +25,7 @@ fn weigh(bytes: &[u8]) -> u64
     sum
 }
 
-/// What stands behind the first space; nothing where there is none.
+/// Returns what follows the first space, or nothing if there is none.
 pub(crate) fn behind_space(bytes: &[u8]) -> &[u8]
     ensures { result.now ≡ spec.behind_space bytes.now }
 {
@@ -35,7 +35,7 @@ pub(crate) fn behind_space(bytes: &[u8]) -> &[u8]
     }
 }
 
-/// What stands behind the number and a space, where the bytes begin with them.
+/// Returns what follows the number and a space, if the bytes start with them.
 fn behind_number(bytes: &[u8], number: u64) -> Option<&[u8]>
     ensures { MatchOption result (BeginsOtherwise bytes.now (number_word number)) (λ rest. bytes.now ≡ number_word number ++ rest.now) }
 {
@@ -46,7 +46,7 @@ fn behind_number(bytes: &[u8], number: u64) -> Option<&[u8]>
     }
 }
 
-/// The body of a line, which stands without its line feed; none where the line doesn't tell that it is whole.
+/// Returns the body of a line, given without its line feed, or none if its length or checksum is wrong.
 pub(crate) fn body_of(line: &[u8]) -> Option<&[u8]>
     requires { length line.now ≤ MAX_BODY }
     ensures { MatchOption result (IsNoLine line.now) (λ body. line.now ≡ line_of body.now) }
@@ -61,7 +61,7 @@ pub(crate) fn body_of(line: &[u8]) -> Option<&[u8]>
     if rest == body { Some(body) } else { None }
 }
 
-/// Writes a line of this body.
+/// Writes a line with this body.
 #[tactic(auto, using(bounded_io::proofs::Pieces::pieces_of_text))]
 pub(crate) fn write_line<W: Write>(text: &mut TextWriter<'_, W>, body: &[u8])
     requires { length body.now ≤ MAX_BODY }

@@ -1,4 +1,4 @@
-//! Digests of texts.
+//! Digests of files.
 ghost use Rattle.std.specs.Prelude.{◌≡◌, length, true};
 ghost use Rattle.hex.specs.Hex.{encode_lower};
 ghost use Rattle.journal.specs.Digests as spec;
@@ -7,7 +7,7 @@ ghost use Rattle.journal.specs.Entries.{is_digest};
 use hex::encode_to_slice;
 use sha2::{Digest, Sha256};
 
-/// These bytes as digits.
+/// Returns these bytes as hexadecimal digits.
 fn digits_of(sum: &[u8]) -> [u8; 64]
     requires { length sum.now ≡ 32 }
     ensures encodes { result ≡ encode_lower sum.now }
@@ -19,7 +19,7 @@ fn digits_of(sum: &[u8]) -> [u8; 64]
     }
 }
 
-/// The SHA-256 of a text, as 64 digits, `0` to `9` and `a` to `f`.
+/// Returns the SHA-256 of the bytes as 64 digits, `0` to `9` and `a` to `f`.
 pub fn digest_of(text: &[u8]) -> [u8; 64]
     ensures digest { result ≡ spec.digest_of text.now }
     ensures digits { is_digest result ≡ true }

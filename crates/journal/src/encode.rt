@@ -1,4 +1,4 @@
-//! Entries in words.
+//! Encoding entries.
 ghost use Rattle.std.specs.Prelude.{◌≡◌, ◌++◌, IfOk, codes, flat_map};
 ghost use Rattle.bounded_io.specs.Writing.{Writes};
 ghost use Rattle.journal.specs.Entries as spec;
@@ -67,7 +67,7 @@ fn write_said<W: Write>(text: &mut TextWriter<'_, W>, fleet: &Fleet, entry: &Ent
     }
 }
 
-/// The words of an entry, with their line feed. Only want of memory refuses it.
+/// Returns an entry encoded as words, with a line feed. Fails only if an allocation fails.
 fn say(alloc: Global, fleet: &Fleet, entry: &Entry<'_>) -> Result<Vec<u8>, AllocError>
     ensures { IfOk result (λ line. line.items ≡ said fleet.now (shown_entry entry.now)) }
 {
@@ -80,7 +80,7 @@ fn say(alloc: Global, fleet: &Fleet, entry: &Entry<'_>) -> Result<Vec<u8>, Alloc
     }
 }
 
-/// The body of an entry's line. Only want of memory refuses it.
+/// Returns the body of an entry's line. Fails only if an allocation fails.
 pub(crate) fn body_of_entry(
     alloc: Global,
     fleet: &Fleet,

@@ -1,20 +1,20 @@
-//! What a journal says, entry by entry.
+//! The entries of a journal.
 use fleet_states::Status;
 use group_tree::HostId;
 use play_forecast::End;
 
-/// Which run a journal is of.
+/// Which run a journal records.
 #[derive(Clone, Copy)]
 pub struct Head<'t> {
-    /// The digest of the inventory's text: 64 digits, `0` to `9` and `a` to `f`.
+    /// The digest of the inventory file: 64 digits, `0` to `9` and `a` to `f`.
     pub inventory: &'t [u8],
-    /// The digest of the playbook's text.
+    /// The digest of the playbook file.
     pub playbook: &'t [u8],
     /// How many plays the playbook has.
     pub plays: u16,
 }
 
-/// What became of a host of a batch.
+/// The outcome of a host of a batch.
 #[derive(Clone, Copy)]
 pub struct Outcome {
     pub host: HostId,
@@ -25,18 +25,18 @@ pub struct Outcome {
 #[derive(Drop)]
 pub(crate) enum Entry<'t> {
     Begun(Head<'t>),
-    /// The next play begins, and these hosts wait.
+    /// The next play starts, and these hosts wait.
     Play(Vec<HostId>),
-    /// These are set aside.
+    /// These hosts are held.
     Held(Vec<HostId>),
-    /// A batch of these opens.
+    /// A batch of these hosts opens.
     Opened(Vec<HostId>),
-    /// The batch is over.
+    /// The batch has ended.
     Closed(Vec<Outcome>),
     /// The play has ended.
     Ended(End),
-    /// The run, which was broken off, is resumed, and these are up by now.
+    /// The interrupted run is resumed, and these hosts are back up.
     Resumed(Vec<HostId>),
-    /// The play in which it broke off goes on, and these hosts wait.
+    /// The interrupted play continues, and these hosts wait.
     Again(Vec<HostId>),
 }

@@ -1,10 +1,10 @@
-//! Why a text is no journal.
+//! Why a file is not a valid journal.
 use std::alloc::AllocError;
 
 /// Why a journal was not read.
 #[derive(Clone, Copy, Debug, PartialEq, Eq)]
 pub enum JournalFault {
-    /// The line, counted from 1, is whole and no entry that may come there; or, with 1, no line is whole.
+    /// The line, counted from 1, is complete but not an entry that may come there. If the line is 1, there may also be no complete line.
     Bad { line: u64 },
     Memory,
 }

@@ -1,4 +1,4 @@
-//! Words that say a number, a host or a group.
+//! Words that contain a number, a host or a group.
 ghost use Rattle.std.specs.Prelude.{◌≡◌, option_map};
 ghost use Rattle.journal.specs.Guesses as spec;
 ghost use Rattle.journal.specs.Guesses.{group_in, host_in};
@@ -10,7 +10,7 @@ use group_tree::{GroupId, HostId};
 use std::str;
 use text_syntax::number_in_digits;
 
-/// What the first word says, where it begins so.
+/// Returns what follows the prefix in the first word, if the word starts with it.
 pub(crate) fn field<'l>(front: &[u8], bytes: &'l [u8]) -> Option<&'l [u8]>
     ensures { option_map (λ rest. rest.now) result ≡ spec.field front.now bytes.now }
 {
@@ -26,14 +26,14 @@ fn number_in(digits: &[u8]) -> Option<u16>
     }
 }
 
-/// The number that the first word says, where it begins so.
+/// Returns the number after the prefix in the first word, if the word starts with it.
 pub(crate) fn number_field(front: &[u8], bytes: &[u8]) -> Option<u16>
     ensures { result ≡ spec.number_field front.now bytes.now }
 {
     number_in(field(front, bytes)?)
 }
 
-/// The host of a name.
+/// Returns the host of this name.
 pub(crate) fn find_host(fleet: &Fleet, name: &[u8]) -> Option<HostId>
     ensures { option_map (λ host. host.index) result ≡ host_in fleet.now name.now }
 {
@@ -43,7 +43,7 @@ pub(crate) fn find_host(fleet: &Fleet, name: &[u8]) -> Option<HostId>
     }
 }
 
-/// The group of a name.
+/// Returns the group of this name.
 pub(crate) fn find_group(fleet: &Fleet, name: &[u8]) -> Option<GroupId>
     ensures { option_map (λ group. group.index) result ≡ group_in fleet.now name.now }
 {

@@ -1,12 +1,12 @@
-//! What holds of the journals of runs, whoever wrote them.
+//! Properties of the journals of runs, whatever wrote them.
 ghost use Rattle.journal.specs.Laws.{FrontsAreRead, NoChangePasses};
 
-/// Wherever the journal of a run is cut off, the entries of its whole lines are read, and no others; and no line of it is bad.
+/// If the journal of a run is truncated anywhere, exactly the entries of its complete lines are read, and no line of it is rejected.
 pub fn fronts_are_read()
     ensures { FrontsAreRead }
 {}
 
-/// Where one byte of the journal of a run is another, nothing is read but entries that it begins with.
+/// If one byte of a run's journal is changed, only entries of a prefix of it are read.
 pub fn no_change_passes()
     ensures { NoChangePasses }
 {}

@@ -1,4 +1,4 @@
-//! The journal of a run: what it says while it goes on, how that is read again, and where it leaves the hosts.
+//! The journal of a run: what is written during the run, how it is read again, and the state in which it leaves the hosts.
 #![tactic(auto)]
 
 mod checked_line;

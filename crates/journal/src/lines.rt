@@ -7,7 +7,7 @@ ghost use Rattle.journal.specs.Lines.{HasNoFeed, IsCut, IsWholeLength};
 ghost use Rattle.journal.specs.Words.{is_space};
 ghost use Rattle.journal.specs.Inside.{BeginsOtherwise, stripped};
 
-/// What stands before the first line feed, and what behind it; nothing where there is none.
+/// Returns what comes before and after the first line feed, or nothing if there is none.
 pub(crate) fn cut_line(bytes: &[u8]) -> Option<(&[u8], &[u8])>
     ensures cut { MatchOption result (HasNoFeed bytes.now) (λ (front, behind). IsCut bytes.now front.now behind.now) }
     ensures shorter { MatchOption result (Unit {0}) (λ (_, behind). length behind.now < length bytes.now) }
@@ -19,7 +19,7 @@ pub(crate) fn cut_line(bytes: &[u8]) -> Option<(&[u8], &[u8])>
     Some((front, rest.split_at(1).1))
 }
 
-/// The first line with its line feed; all bytes where none has one.
+/// Returns the first line with its line feed, or all bytes if there is no line feed.
 pub fn first_line(bytes: &[u8]) -> &[u8]
     ensures { result.now ≡ spec.first_line_of bytes.now }
 {
@@ -37,7 +37,7 @@ fn count_line(bytes: &[u8]) -> usize
     bytes.iter().take_while(|byte| **byte != b'\n').count()
 }
 
-/// The first word, and what stands behind the space after it, where there is one.
+/// Returns the first word, and what follows the space after it, if there is one.
 pub(crate) fn cut_word(text: &[u8]) -> (&[u8], Option<&[u8]>)
     ensures word { result.0.now ≡ before_first is_space text.now }
     ensures words { slice_split is_space text.now ≡ result.0.now ∷ option_map_or (λ rest. slice_split is_space rest.now) result.1 [] }
@@ -57,7 +57,7 @@ fn count_word(text: &[u8]) -> usize
     text.iter().take_while(|byte| **byte != b' ').count()
 }
 
-/// What stands behind these bytes, where the others begin with them.
+/// Returns what follows this prefix, if the bytes start with it.
 pub(crate) fn strip<'l>(bytes: &'l [u8], front: &[u8]) -> Option<&'l [u8]>
     ensures begins { MatchOption result (BeginsOtherwise bytes.now front.now) (λ rest. bytes.now ≡ front.now ++ rest.now) }
     ensures stripped { option_map (λ rest. rest.now) result ≡ stripped front.now bytes.now }
@@ -65,7 +65,7 @@ pub(crate) fn strip<'l>(bytes: &'l [u8], front: &[u8]) -> Option<&'l [u8]>
     bytes.strip_prefix(front)
 }
 
-/// How many bytes stand up to the last line feed, with it: what is behind it broke off.
+/// Returns how many bytes there are up to and including the last line feed. What follows was interrupted.
 pub fn whole_length(text: &[u8]) -> usize
     ensures { IsWholeLength text.now result }
 {

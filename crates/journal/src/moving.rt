@@ -1,4 +1,4 @@
-//! Hosts that go from a status to another.
+//! Moving hosts from one status to another.
 ghost use Rattle.std.specs.Prelude.{◌≡◌, None, Some, option_map, slice_set, if◌then◌else◌};
 ghost use Rattle.domains.specs.Ids.{host_numbers};
 ghost use Rattle.journal.specs.States as spec;
@@ -9,7 +9,7 @@ use crate::entry::Outcome;
 use fleet_states::{Status, status_of};
 use group_tree::HostId;
 
-/// Whether a status is the one from which hosts are moved, of those from which they may be.
+/// Reports whether a status is the one to move hosts from, and one that hosts may be moved from.
 fn stands(before: Status, status: Status) -> bool
     ensures { result ≡ spec.stands before status }
 {
@@ -27,7 +27,7 @@ fn has_status(before: Status, statuses: &[Status], host: HostId) -> bool
     host.index < statuses.len() && stands(before, status_of(statuses, host))
 }
 
-/// Gives a host a status; a number that no host has is passed over.
+/// Sets the status of a host; ignores a number that no host has.
 pub(crate) fn set_status(statuses: &mut [Status], host: HostId, status: Status)
     ensures { statuses.new ≡ slice_set statuses.old host.index status }
 {
@@ -36,7 +36,8 @@ pub(crate) fn set_status(statuses: &mut [Status], host: HostId, status: Status)
     }
 }
 
-/// Moves the hosts from a status to another, one behind the other, and says whether each had the first one. Where one hadn't, those before it are moved.
+/// Moves the hosts from one status to another in order. Returns false at the first host that does not have the old status; the hosts before
+/// it are moved.
 pub(crate) fn move_hosts(
     statuses: &mut [Status],
     before: Status,
@@ -60,7 +61,8 @@ fn is_over(status: Status) -> bool
     matches!(status, Status::Updated | Status::Failed | Status::Halted)
 }
 
-/// Gives the hosts of a batch what became of them, and says whether these are all of them, in their order, and each is over. Where one isn't, those before it have theirs.
+/// Sets the outcomes of a batch's hosts. Returns whether they are for exactly the batch's hosts, in order, and each is final. After a
+/// failure, the hosts before the first wrong one have their outcomes.
 pub(crate) fn settle(statuses: &mut [Status], batch: &[HostId], outcomes: &[Outcome]) -> bool
     ensures { (if result then Some statuses.new else None) ≡ settled (host_numbers batch.now) (shown_outcomes outcomes.now) statuses.old }
 {

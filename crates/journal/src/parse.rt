@@ -1,4 +1,4 @@
-//! The entry that a line's body may say.
+//! Parsing the body of a line, without checking that it is valid.
 ghost use Rattle.std.specs.Prelude.{◌≡◌, ◌∷◌, IfOk, [], codes, option_and_then, option_map};
 ghost use Rattle.std.specs.Option.{option_map_or, option_or};
 ghost use Rattle.journal.specs.Entries.{begun, ended};
@@ -20,7 +20,7 @@ use play_forecast::End;
 use recap::word_of;
 use std::alloc::{AllocError, Global};
 
-/// The hosts of the words that are left; nothing where one of them is no host's name. Only want of memory refuses it.
+/// Returns the hosts of the remaining words, or nothing if one of them is not a host's name. Fails only if an allocation fails.
 fn hosts_in(
     alloc: Global,
     fleet: &Fleet,
@@ -41,7 +41,7 @@ fn hosts_in(
     Ok(Some(hosts))
 }
 
-/// A host of which this became.
+/// Returns the outcome with this status of the host of this name.
 fn outcome_by(fleet: &Fleet, status: Status, word: &[u8]) -> Option<Outcome>
     ensures { option_map shown_outcome result ≡ spec.outcome_by fleet.now status word.now }
 {
@@ -58,7 +58,7 @@ fn outcome_in(fleet: &Fleet, word: &[u8]) -> Option<Outcome>
         .or(outcome_by(fleet, Status::Halted, word))
 }
 
-/// What became of hosts, by the words that are left; nothing where one of them doesn't say it. Only want of memory refuses it.
+/// Returns the outcomes of hosts in the remaining words, or nothing if one of them is not an outcome. Fails only if an allocation fails.
 fn outcomes_in(
     alloc: Global,
     fleet: &Fleet,
@@ -141,7 +141,7 @@ fn end_in(fleet: &Fleet, body: &[u8]) -> Option<End>
     blocked_in(fleet, body).or(too_many_in(body))
 }
 
-/// The entry that is no list of hosts.
+/// Returns the entry if it is not a list of hosts.
 fn other_in<'t>(fleet: &Fleet, body: &'t [u8]) -> Option<Entry<'t>>
     ensures { option_map shown_entry result ≡ option_or (option_map begun (spec.head_in body.now)) (option_map ended (spec.end_in fleet.now body.now)) }
 {
@@ -154,7 +154,7 @@ fn other_in<'t>(fleet: &Fleet, body: &'t [u8]) -> Option<Entry<'t>>
     }
 }
 
-/// Whether a list of hosts stands behind the word.
+/// Reports whether a list of hosts follows this word.
 fn is_list_word(word: &[u8]) -> bool
     ensures { result ≡ spec.is_list_word word.now }
 {
@@ -165,7 +165,7 @@ fn is_list_word(word: &[u8]) -> bool
         || word == b"again:".as_slice()
 }
 
-/// The entry of a list of hosts behind the word.
+/// Returns the entry for a list of hosts after this word.
 fn list_entry<'t>(word: &[u8], hosts: Vec<HostId>) -> Entry<'t>
     ensures { shown_entry result ≡ spec.list_entry word.now (host_numbers hosts.items) }
 {
@@ -182,7 +182,7 @@ fn list_entry<'t>(word: &[u8], hosts: Vec<HostId>) -> Entry<'t>
     }
 }
 
-/// The entry that a body may say; nothing where it says none. Only want of memory refuses it.
+/// Returns the entry that a body may encode, or nothing if it encodes none. Fails only if an allocation fails.
 pub(crate) fn parse_candidate<'t>(
     alloc: Global,
     fleet: &Fleet,

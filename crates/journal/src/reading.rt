@@ -17,7 +17,7 @@ use crate::state::Journal;
 use domains::Fleet;
 use std::alloc::{AllocError, Global};
 
-/// The entry of a body; nothing where it has none. Only want of memory refuses it.
+/// Returns the entry of a body, or nothing if it has none. Fails only if an allocation fails.
 fn read_entry<'t>(
     alloc: Global,
     fleet: &Fleet,
@@ -37,7 +37,8 @@ fn read_entry<'t>(
     }
 }
 
-/// Where a line, which stands without its line feed, leads; nowhere where it may not come. Only want of memory refuses it.
+/// Returns the state after a line, given without its line feed, or nothing if the line may not come there. Fails only if an allocation
+/// fails.
 fn follow_line<'t>(
     alloc: Global,
     fleet: &Fleet,
@@ -59,8 +60,8 @@ fn follow_line<'t>(
     }
 }
 
-/// Reads the journal of a run of this fleet: where the run stands behind its whole lines. What stands behind the last line feed broke off, and is passed over. The
-/// first line that is none of a run refuses it, and so does a text without a whole line.
+/// Reads the journal of a run of this fleet, and returns the state after its complete lines. Ignores what follows the last line feed, since
+/// its writing was interrupted. Rejects the first line that is not valid in a run, and a file without a complete line.
 pub fn read_journal<'t>(
     alloc: Global,
     fleet: &Fleet,

@@ -1,4 +1,4 @@
-//! Where an entry leads.
+//! Replaying an entry.
 ghost use Rattle.std.specs.Prelude.{◌≡◌, IfOk, option_map};
 ghost use Rattle.std.specs.List.{list_all};
 ghost use Rattle.domains.specs.FleetViews.{FleetView};
@@ -48,7 +48,7 @@ pub(crate) fn is_finished(end: Option<End>) -> bool
 }
 
 impl Journal<'_> {
-    /// How many plays there are; none where the run isn't known.
+    /// Returns how many plays there are, or 0 if the run isn't known.
     pub fn plays(&self) -> u16
         ensures { result ≡ spec.plays_of (shown_journal self.now).head }
     {
@@ -58,7 +58,7 @@ impl Journal<'_> {
         }
     }
 
-    /// Whether the play that began last has finished, and there is one more.
+    /// Reports whether the play that started last has finished, and there is one more.
     pub fn is_one_more(&self) -> bool
         ensures { result ≡ spec.is_one_more (shown_journal self.now) }
     {
@@ -71,7 +71,7 @@ impl Journal<'_> {
         self.play < self.plays() && (self.play == 0 || is_finished(self.end))
     }
 
-    /// Whether a play has begun and has not ended.
+    /// Reports whether a play has started and has not ended.
     pub fn is_under_way(&self) -> bool
         ensures { result ≡ spec.is_under_way (shown_journal self.now) }
     {
@@ -255,7 +255,7 @@ fn resume_with<'t>(mut journal: Journal<'t>, hosts: &[HostId]) -> Option<Journal
     Some(journal)
 }
 
-/// Where an entry leads; nowhere where it may not come. Only want of memory refuses it.
+/// Returns the state after an entry, or nothing if it may not come there. Fails only if an allocation fails.
 pub(crate) fn follow<'t>(
     alloc: Global,
     fleet: &Fleet,

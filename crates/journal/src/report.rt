@@ -1,4 +1,4 @@
-//! Telling where a run stands.
+//! Reporting the state of a run.
 ghost use Rattle.std.specs.Prelude.{◌≡◌};
 ghost use Rattle.bounded_io.specs.Sending.{SendsText};
 ghost use Rattle.bounded_io.specs.Writing.{Writes};
@@ -16,7 +16,7 @@ use recap::{host_name, word_of, write_end};
 use std::io::Write;
 
 impl Journal<'_> {
-    /// How the run has ended; it was broken off where its last play has no end, or finished and there are plays to come.
+    /// Returns how the run has ended. It was interrupted if its last play has no end, or has finished and there are plays to come.
     pub fn run_end(&self) -> Option<End>
         ensures { result ≡ spec.run_end (shown_journal self.now) }
     {
@@ -83,8 +83,8 @@ fn write_standing<W: Write>(
     write_standing_end(text, fleet, goes_on, journal.run_end());
 }
 
-/// Writes how each host stands that isn't idle, and how the run has ended; `goes_on`: whether one that has not is still running. It takes no memory; where a write
-/// fails, exactly the first bytes went out, as many as the fault says.
+/// Writes the state of each host that isn't idle, and how the run has ended. `goes_on` is true if a run without an end is still running.
+/// Does not allocate. If a write fails, exactly the first bytes were written; the error states how many.
 pub fn write_state<W: Write>(
     fleet: &Fleet,
     goes_on: bool,

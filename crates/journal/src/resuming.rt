@@ -1,4 +1,4 @@
-//! A run that was broken off is resumed.
+//! Resuming an interrupted run.
 ghost use Rattle.std.specs.Prelude.{◌≡◌, ◌++◌, IfOk, OnOk, filter, map};
 ghost use Rattle.domains.specs.Ids.{host_numbers};
 ghost use Rattle.journal.specs.States as spec;
@@ -13,7 +13,7 @@ use group_tree::HostId;
 use play_forecast::End;
 use std::alloc::{AllocError, Global};
 
-/// A host that is up, where it was down.
+/// Returns the status of a host that is back up.
 fn stand_up(status: Status) -> Status
     ensures { result ≡ spec.stood_up status }
 {
@@ -24,7 +24,7 @@ fn stand_up(status: Status) -> Status
     }
 }
 
-/// A host whose run was broken off.
+/// Returns the status of a host after its run was interrupted.
 fn rest(status: Status) -> Status
     ensures { result ≡ spec.at_rest status }
 {
@@ -35,7 +35,7 @@ fn rest(status: Status) -> Status
     }
 }
 
-/// These hosts are up again; a number that no host has is passed over.
+/// Marks these hosts as back up; ignores a number that no host has.
 fn mend(statuses: &mut [Status], hosts: &[HostId])
     ensures { statuses.new ≡ mended (host_numbers hosts.now) statuses.old }
 {
@@ -50,14 +50,14 @@ fn rest_all(alloc: Global, statuses: &[Status]) -> Result<Vec<Status>, AllocErro
     statuses.iter().map(|status| rest(*status)).collect(alloc)
 }
 
-/// Whether a host has failed, or was at work.
+/// Reports whether a host has failed, was halted, or was running.
 fn is_tried(status: Status) -> bool
     ensures { result ≡ spec.is_tried status }
 {
     matches!(status, Status::Running | Status::Failed | Status::Halted)
 }
 
-/// Adds those of the hosts that have failed, or were at work.
+/// Adds those of the hosts that have failed, were halted, or were running.
 fn add_tried(
     owing: &mut Vec<HostId>,
     statuses: &[Status],
@@ -75,7 +75,7 @@ fn add_tried(
 }
 
 impl<'t> Journal<'t> {
-    /// Who owes the handlers of the play that goes on, where these hosts are up by now. Only want of memory refuses it.
+    /// Records which hosts owe the handlers of the play that continues, given that these are back up. Fails only if an allocation fails.
     fn owe(&mut self, hosts: &[HostId]) -> Result<(), AllocError>
         ensures { OnOk result (shown_journal self.new
             ≡ record (shown_journal self.old) { owing = owing_with (shown_journal self.old) (host_numbers hosts.now) }) }
@@ -94,8 +94,9 @@ impl<'t> Journal<'t> {
         if self.is_one_more() { self.end } else { None }
     }
 
-    /// Where the run stands as it is resumed, with these hosts up by now: who was at work when it broke off may be down and stays so, and nobody waits. The play that
-    /// goes on has no end; who owes its handlers is known. Only want of memory refuses it.
+    /// Returns the state of the run as it is resumed, with these hosts back up. Hosts that were running when it was interrupted are halted,
+    /// and may be down. No host waits. The play that continues has no end, and the hosts that owe its handlers are known. Fails only if an
+    /// allocation fails.
     pub fn resumed(mut self, alloc: Global, hosts: &[HostId]) -> Result<Journal<'t>, AllocError>
         ensures { IfOk result (λ later. shown_journal later ≡ resumes (shown_journal self.entry) (host_numbers hosts.now)) }
     {

@@ -19,7 +19,8 @@ use play_forecast::End;
 use std::alloc::{AllocError, Global};
 use std::io::Write;
 
-/// Writes the line of an entry. Want of memory refuses it, and so does a line that no reader would take, which no names of an inventory make; then nothing is written.
+/// Writes the line of an entry. Fails without writing anything if an allocation fails, or if the line is too long to be read. No names of
+/// an inventory make such a line.
 fn write_entry<W: Write>(
     alloc: Global,
     text: &mut TextWriter<'_, W>,
@@ -37,7 +38,7 @@ fn write_entry<W: Write>(
     Ok(())
 }
 
-/// Writes which run it is. Only want of memory refuses it; then nothing is written.
+/// Writes which run it is. Fails only if an allocation fails; then it writes nothing.
 pub fn write_head<W: Write>(
     alloc: Global,
     text: &mut TextWriter<'_, W>,
@@ -70,7 +71,7 @@ fn list_waiting(alloc: Global, statuses: &[Status]) -> Result<Vec<HostId>, Alloc
     Ok(hosts)
 }
 
-/// Writes that the next play begins with these statuses, and which hosts wait. Only want of memory refuses it; then nothing is written.
+/// Writes that the next play starts with these statuses, and which hosts wait. Fails only if an allocation fails; then it writes nothing.
 pub fn write_play<W: Write>(
     alloc: Global,
     text: &mut TextWriter<'_, W>,
@@ -90,7 +91,8 @@ fn copied(alloc: Global, hosts: &[HostId]) -> Result<Vec<HostId>, AllocError>
     hosts.iter().copied().collect(alloc)
 }
 
-/// Writes that the play in which a run broke off goes on with these statuses, and which hosts wait. Only want of memory refuses it; then nothing is written.
+/// Writes that the interrupted play continues with these statuses, and which hosts wait. Fails only if an allocation fails; then it writes
+/// nothing.
 pub fn write_again<W: Write>(
     alloc: Global,
     text: &mut TextWriter<'_, W>,
@@ -104,7 +106,7 @@ pub fn write_again<W: Write>(
     write_entry(alloc, text, fleet, &Entry::Again(hosts))
 }
 
-/// Writes that a run which was broken off is resumed, where these hosts are up by now. Only want of memory refuses it; then nothing is written.
+/// Writes that an interrupted run is resumed, with these hosts back up. Fails only if an allocation fails; then it writes nothing.
 pub fn write_resumed<W: Write>(
     alloc: Global,
     text: &mut TextWriter<'_, W>,
@@ -118,7 +120,7 @@ pub fn write_resumed<W: Write>(
     write_entry(alloc, text, fleet, &Entry::Resumed(hosts))
 }
 
-/// Writes that these hosts are set aside. Only want of memory refuses it; then nothing is written.
+/// Writes that these hosts are held. Fails only if an allocation fails; then it writes nothing.
 pub fn write_held<W: Write>(
     alloc: Global,
     text: &mut TextWriter<'_, W>,
@@ -132,7 +134,7 @@ pub fn write_held<W: Write>(
     write_entry(alloc, text, fleet, &Entry::Held(hosts))
 }
 
-/// Writes that a batch of these hosts opens: from then on they may be down. Only want of memory refuses it; then nothing is written.
+/// Writes that a batch of these hosts opens: from then on they may be down. Fails only if an allocation fails; then it writes nothing.
 pub fn write_open<W: Write>(
     alloc: Global,
     text: &mut TextWriter<'_, W>,
@@ -168,7 +170,7 @@ fn outcome_of(statuses: &[Status], host: HostId) -> Outcome
     }
 }
 
-/// Writes that the batch is over, and what became of its hosts. Only want of memory refuses it; then nothing is written.
+/// Writes that the batch has ended, and the outcomes of its hosts. Fails only if an allocation fails; then it writes nothing.
 pub fn write_closed<W: Write>(
     alloc: Global,
     text: &mut TextWriter<'_, W>,
@@ -183,7 +185,7 @@ pub fn write_closed<W: Write>(
     write_entry(alloc, text, fleet, &Entry::Closed(outcomes))
 }
 
-/// Writes how the play has ended. Only want of memory refuses it; then nothing is written.
+/// Writes how the play has ended. Fails only if an allocation fails; then it writes nothing.
 pub fn write_end<W: Write>(
     alloc: Global,
     text: &mut TextWriter<'_, W>,

@@ -1,4 +1,4 @@
--- The statuses with which a play begins.
+-- The statuses with which a play starts.
 use Rattle.std.proofs.Common.{◌≡◌, ℕ, suc, ◌<◌, length, Bool, true, false, cond, ◌&&◌, Some, None, option_map, List, [], ◌∷◌, get_or, sym, ap, ◌∙◌, refl, arith}
 use Rattle.std.specs.Prelude.{option_and_then}
 use Rattle.std.proofs.lemmas.Bool.{and_from, and_parts, lt-ltb, ltb-true}
@@ -25,13 +25,13 @@ use Rattle.journal.specs.States.{JournalState, follow, has_status, moved, plays,
 use Rattle.journal_writer.specs.Laws.{MayComeNext, SaysTruly}
 use Rattle.journal_writer.proofs.MoveLemmas.{moved_given}
 
--- who waits by these statuses
+-- the hosts that wait by these statuses
 pub listed : (statuses : List Status) (host : ℕ) → host < length statuses → has_number host (waiting_hosts statuses) ≡ is_waiting (status_at statuses host)
 listed statuses host within =
     has_number-numbers_where (λ h. is_waiting (status_at statuses h)) (length statuses) host
     ∙ ap (λ b. b && is_waiting (status_at statuses host)) (lt-ltb host (length statuses) within)
 
--- hosts that wait from now on were idle before, and the others are as they were
+-- hosts that now wait were idle before, and the others are unchanged
 module _ (idle statuses : List Status) (long : length idle ≡ length statuses)
     (were_idle : (host : ℕ) → host < length statuses → is_waiting (status_at statuses host) ≡ true → stands Idle (status_at idle host) ≡ true)
     (were_so : (host : ℕ) → host < length statuses → is_waiting (status_at statuses host) ≡ false → status_at idle host ≡ status_at statuses host) where
@@ -66,7 +66,7 @@ module _ (idle statuses : List Status) (long : length idle ≡ length statuses)
   pub all_wait : moved Idle Waiting those idle ≡ Some statuses
   all_wait = moved_given Idle Waiting those idle stood_idle distinct ∙ ap Some begun_are
 
--- the statuses with which a play begins
+-- the statuses with which a play starts
 module _ (said : JournalState) (statuses : List Status) (comes : MayComeNext said statuses) where
   abbrev whom : List ℕ
   whom = waiting_hosts statuses
@@ -115,7 +115,7 @@ module _ (said : JournalState) (statuses : List Status) (comes : MayComeNext sai
       ap (option_and_then (λ s. follow fleet s [])) (ap (λ b. cond b (option_map (plays said) (moved Idle Waiting whom idle)) None) comes.begins
       ∙ ap (option_map (plays said)) (all_wait idle statuses idle_long were_idle were_so))
 
--- a play that has begun
+-- a play that has started
 pub begun_truly : (said : JournalState) (roll : Roll) → said.open_batch ≡ [] → SaysTruly (plays said roll.start) (start_state roll)
 begun_truly said roll nobody =
     record {
@@ -126,7 +126,7 @@ begun_truly said roll nobody =
       outside = λ host outside. refl;
     }
 
--- these statuses are those that the others leave to the hosts that wait by them
+-- `before` gives these statuses to the hosts that wait by them
 module _ (before statuses : List Status) (long : length before ≡ length statuses)
     (each : (host : ℕ) → host < length statuses → restart_status (status_at before host) (is_waiting (status_at statuses host)) ≡ status_at statuses host) where
   pub restarts_to : restart_statuses before (waiting_hosts statuses) ≡ statuses
@@ -153,7 +153,7 @@ restarts_once Off targeted = refl
 restarts_once Held true = refl
 restarts_once Held false = refl
 
--- so where a play begins behind another
+-- likewise if a play starts after another
 pub restart_restarts : (before : List Status) (target : List ℕ) → restart_statuses before (waiting_hosts (restart_statuses before target)) ≡ restart_statuses before target
 restart_restarts before target = restarts_to before (restart_statuses before target) (sym (length-restart_statuses before target)) each
   where
@@ -171,7 +171,7 @@ starts_once true targeted = refl
 starts_once false true = refl
 starts_once false false = refl
 
--- and where it is the first of the fleet
+-- and if it is the first of the fleet
 pub start_restarts : (fleet : FleetView) (target : List ℕ) → restart_statuses (start_statuses fleet []) (waiting_hosts (start_statuses fleet target)) ≡ start_statuses fleet target
 start_restarts fleet target = restarts_to (start_statuses fleet []) (start_statuses fleet target) (none ∙ sym some) each
   where

@@ -1,4 +1,4 @@
--- A digest has as many digits as a journal's head wants.
+-- A digest has the number of digits that a journal's head requires.
 use Rattle.std.proofs.Common.{◌≡◌, ℕ, zero, suc, ◌*◌, ◌/◌, ◌%◌, ◌^◌, ◌<◌, length, nat_eq, nat_lt, Bool, true, List, [], ◌∷◌, slice_index, ap, ◌∙◌, refl, arith}
 use Rattle.std.specs.Int.{byte_at, byte_len, bytes_high_first, to_be_bytes, w32}
 use Rattle.std.specs.List.{list_all}

@@ -1,4 +1,4 @@
--- Who is down by a journal, entry by entry.
+-- Which hosts are down by a journal, entry by entry.
 use Rattle.std.proofs.Common.{◌≡◌, ℕ, ◌≤◌, ◌<◌, length, Bool, true, false, cond, ◌&&◌, ◌||◌, ◌==◌, nat_eq, nat_lt, Option, Some, None, is_none, option_map, List, [], ◌∷◌, set, sym, ap, ◌∙◌, refl, subst, inl, inr, ◌⊎◌, arith}
 use Rattle.std.proofs.lemmas.Bool.{and_parts, and_right, both_ways, cases_eq, cases_lt, eqb-false, eqb-true, ltb-true, or_cases, or_parts}
 use Rattle.std.proofs.lemmas.List.{get_or-map, length-map}
@@ -17,7 +17,7 @@ use Rattle.journal.specs.Entries.{Entry, Outcome, again, begun, closed, ended, h
 use Rattle.journal.specs.States.{JournalState, at_rest, begins, closes, ends, has_status, holds, is_between, is_finished, is_in_batch, is_nobody, is_over, is_under_way, may_begin, may_end, mended, moved, next, opens, plays, plays_of, rested, resumes, settled, stood_up}
 use Rattle.journal_writer.specs.Losses.{may_be_ahead, opens_none}
 
--- where hosts have moved, a host is as it was, or has moved
+-- after hosts have moved, a host is unchanged or has moved
 pub moved_host : (before after : Status) (hosts : List ℕ) (statuses later : List Status) (host : ℕ) → moved before after hosts statuses ≡ Some later
     → (status_at later host ≡ status_at statuses host) ⊎ (status_at later host ≡ after)
 moved_host before after [] statuses later host e = let same : statuses ≡ later = cc in inl (ap (λ (l : List Status). status_at l host) (sym same))
@@ -32,7 +32,7 @@ moved_host before after (first ∷ hosts) statuses later host e =
     by_case within (inl is) (inl same) = inr (is ∙ ap (status_at (set statuses first after)) same ∙ status_at-set statuses first after within)
     by_case within (inl is) (inr apart) = inl (is ∙ status_at-set_other statuses first after host apart)
 
--- and one of them has
+-- and each of the moved hosts has moved
 pub moved_there : (before after : Status) (hosts : List ℕ) (statuses later : List Status) (host : ℕ) → moved before after hosts statuses ≡ Some later → has_number host hosts ≡ true
     → status_at later host ≡ after
 moved_there before after [] statuses later host e here = absurd (cc)
@@ -48,7 +48,7 @@ moved_there before after (first ∷ hosts) statuses later host e here =
     by_case within rest (inr is) (inl same) = is
     by_case within rest (inl is) (inl same) = is ∙ ap (status_at (set statuses first after)) (eqb-true host first same) ∙ status_at-set statuses first after within
 
--- where a batch is settled, hosts outside it are as they were
+-- settling a batch does not change hosts outside it
 pub settled_other : (batch : List ℕ) (outcomes : List Outcome) (statuses later : List Status) (host : ℕ) → settled batch outcomes statuses ≡ Some later → has_number host batch ≡ false
     → status_at later host ≡ status_at statuses host
 settled_other [] [] statuses later host e outside = let same : statuses ≡ later = cc in ap (λ (l : List Status). status_at l host) (sym same)
@@ -60,7 +60,7 @@ settled_other (first ∷ batch) (outcome ∷ outcomes) statuses later host e out
     settled_other batch outcomes (set statuses first outcome.status) later host both.1 parts.1
     ∙ status_at-set_other statuses first outcome.status host (eqb-false host first parts.0)
 
--- a host as a run that was broken off left it, where these are up by now
+-- a host as an interrupted run left it, with these hosts back up
 abbrev pub left_at : List ℕ → List Status → ℕ → Status
 left_at hosts statuses host = at_rest (cond (has_number host hosts) (stood_up (status_at statuses host)) (status_at statuses host))
 
@@ -76,7 +76,7 @@ rested_at hosts statuses host = by_case (cases_lt host (length (mended hosts sta
         status_at-past (rested hosts statuses) host (omega (arith, past, length-map (mended hosts statuses) at_rest))
         ∙ ap at_rest (sym (status_at-past (mended hosts statuses) host past) ∙ is)
 
--- nobody else comes down by it
+-- no other host goes down by it
 pub rested_down : (hosts : List ℕ) (statuses : List Status) (host : ℕ) → is_down (status_at (rested hosts statuses) host) ≡ true → is_down (status_at statuses host) ≡ true
 rested_down hosts statuses host down = either (status_at statuses host) (has_number host hosts) (sym (ap is_down (rested_at hosts statuses host)) ∙ down)
   where
@@ -94,7 +94,7 @@ rested_down hosts statuses host down = either (status_at statuses host) (has_num
     either Held true e = absurd (cc)
     either Held false e = absurd (cc)
 
--- a restart brings nobody down
+-- a restart takes no host down
 restarted_down : (statuses : List Status) (host : ℕ) → is_down (status_at (restart_statuses statuses []) host) ≡ true → is_down (status_at statuses host) ≡ true
 restarted_down statuses host down = by_case (cases_lt host (length statuses))
   where
@@ -122,7 +122,7 @@ nobody_listed : (hosts : List ℕ) → is_nobody hosts ≡ true → hosts ≡ []
 nobody_listed [] none = refl
 nobody_listed (host ∷ hosts) none = absurd (cc)
 
--- a play that has not begun, or has finished, is not under way
+-- a play that has not started, or has finished, is not running
 not_under_way : (count : ℕ) (end : Option End) → ((count == 0) || is_finished end) ≡ true → (nat_lt 0 count && is_none end) ≡ false
 not_under_way count end may = by_case (or_cases (count == 0) (is_finished end) may)
   where
@@ -134,12 +134,12 @@ not_under_way count end may = by_case (or_cases (count == 0) (is_finished end) m
     by_case (inl first) = ap (λ n. nat_lt 0 n && is_none end) (eqb-true count 0 first)
     by_case (inr finished) = and_right (nat_lt 0 count) (is_none end) (over end finished)
 
--- who is in the open batch is at work, and nobody is where no play is under way
+-- a host in the open batch is running, and the batch is empty if no play is running
 pub record BatchWorks (said : JournalState) : Type 0 where
   pub works : (host : ℕ) → has_number host said.open_batch ≡ true → status_at said.statuses host ≡ Running
   pub idle : is_under_way said ≡ false → said.open_batch ≡ []
 
--- by an entry that opens no batch nobody comes down, and by one that may be ahead nobody comes up
+-- an entry that opens no batch takes no host down, and one that may be ahead brings none up
 pub record Moves (said later : JournalState) (entry : Entry) : Type 0 where
   pub works : BatchWorks later
   pub falls : opens_none entry ≡ true → (host : ℕ) → is_down (status_at later.statuses host) ≡ true → is_down (status_at said.statuses host) ≡ true
@@ -149,7 +149,7 @@ none_works : (hosts : List ℕ) (statuses : List Status) → hosts ≡ [] → (h
 none_works hosts statuses none host here = absurd (both_ways true (sym here ∙ ap (has_number host) none) refl)
 
 module _ (fleet : FleetView) (said : JournalState) (batch : BatchWorks said) where
-  -- hosts that wait no more, or wait from now on, and are not down
+  -- hosts that no longer wait, or now wait, and are not down
   up : (after : Status) (hosts : List ℕ) (before : Status) (statuses later : List Status) → moved before after hosts statuses ≡ Some later → is_down after ≡ false → (host : ℕ)
       → is_down (status_at later host) ≡ true → is_down (status_at statuses host) ≡ true
   up after hosts before statuses later e stands host down = by_case (moved_host before after hosts statuses later host e)

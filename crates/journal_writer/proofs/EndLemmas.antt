@@ -1,4 +1,4 @@
--- What a journal says of a run that is over.
+-- What a journal states about a run that has ended.
 use Rattle.std.proofs.Common.{◌≡◌, true, cond, Some, None, List, [], ◌∷◌, ap, ◌∙◌, refl}
 use Rattle.std.proofs.lemmas.Bool.{and_from}
 use Rattle.event_log.proofs.GrowthLaws.{end_at_work}

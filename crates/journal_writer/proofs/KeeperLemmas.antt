@@ -1,4 +1,4 @@
--- What the journals of both keepers take of what these keep.
+-- What the journals of both recorders accept of what these receive.
 use Rattle.std.proofs.Common.{◌≡◌, inl, inr, ℕ, Bool, true, false, Option, Some, None, List, [], ◌∷◌, ◌++◌, sym, ap, ◌∙◌, refl, subst}
 use Rattle.std.specs.List.{list_all}
 use Rattle.domains.specs.FleetViews.{FleetView}
@@ -39,7 +39,7 @@ module _ {F : Type 0} (contents : F → Option (List ℕ)) where
   again_adds text old false new whole entry adds opens = record { stays = λ is. (ap contents adds.0, adds.1); takes = λ is. absurd (cc); opens = opens }
   again_adds text old true new whole entry adds opens = record { stays = λ is. absurd (cc); takes = λ is. adds; opens = opens }
 
-  -- of a keeper of a run that begins
+  -- for the recorder of a new run
   module _ {K : Type 0} (is_new : K → F → Type 0) (inventory playbook : K → List ℕ) (file : K → Option F) (whole : K → Bool) (on_disk : Option F → Type 0) (fleet : FleetView) where
     abbrev keeps : K → K → FleetView → JournalEntry → Type 0
     keeps before after fleet entry =
@@ -102,7 +102,7 @@ module _ {F : Type 0} (contents : F → Option (List ℕ)) where
         (λ is. taken (text first second) (next first second) known whole (λ k. tt) is_later keeps fleet (steps first second) (λ before after entry is kept. refl) kept.0 after entries later is kept.2)
         (λ is. stuck (text first second) (next first second) known whole (λ k. tt) is_later keeps fleet (steps first second) (λ before after entry is kept. refl) kept.0 after entries later is kept.2))
 
-  -- of a keeper of one that goes on
+  -- for the recorder of a resumed run
   module _ {K L : Type 0} (file : K → F) (whole : K → Bool) (named : K → L) (numbers : L → List ℕ) (going : K → Bool) (on_disk : F → Type 0) (fleet : FleetView) where
     abbrev keeps_again : K → K → FleetView → JournalEntry → Type 0
     keeps_again before after fleet entry =

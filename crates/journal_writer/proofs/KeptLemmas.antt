@@ -1,4 +1,4 @@
--- What keepers have kept of plays is what there is to keep of them.
+-- What recorders have recorded of plays is what is to be recorded of them.
 use Rattle.std.proofs.Common.{◌≡◌, ◌⊎◌, inl, inr, ℕ, Bool, true, false, Option, Some, None, List, [], ◌∷◌, ◌++◌, map, sym, refl, subst}
 use Rattle.std.specs.List.{list_all}
 use Rattle.std.proofs.lemmas.Bool.{and_from, and_parts}
@@ -46,7 +46,7 @@ pub play_is_later : (roll : Roll) (log : List Event) (end : Option End) → list
 play_is_later roll log None = all_later (entries roll [] (start_state roll) log) [] (log_is_later roll [] (start_state roll) log) refl
 play_is_later roll log (Some end) = all_later (entries roll [] (start_state roll) log) (ended end ∷ []) (log_is_later roll [] (start_state roll) log) refl
 
--- a run that ended tells that nothing is lacking; of another it isn't told
+-- a run that ended states that the journal is complete; another run does not
 pub taken_partly : {F : Type 0} (contents : F → Option (List ℕ)) (IsFirst : F → Type 0) (text_of : List JournalEntry → List ℕ) (entries : List JournalEntry) (whole : Bool)
     → IsTaken contents IsFirst text_of entries whole → IsTaken contents IsFirst text_of entries false
 taken_partly contents IsFirst text_of entries false is = is

@@ -1,4 +1,4 @@
--- What is left of a journal loses nobody.
+-- The rest of a journal loses no down host.
 use Rattle.std.proofs.Common.{◌≡◌, ℕ, true, Some, List, [], ◌∷◌, ◌++◌, sym, ap, ◌∙◌, refl, subst}
 use Rattle.std.specs.List.{list_all}
 use Rattle.std.specs.Prelude.{option_and_then}
@@ -15,7 +15,7 @@ use Rattle.journal_writer.proofs.RunLemmas.{runs_are_said_truly}
 start_works : (fleet : FleetView) → BatchWorks (start fleet)
 start_works fleet = record { works = λ host here. absurd (cc); idle = λ over. refl }
 
--- entries lead somewhere, and those behind them on from there
+-- entries lead to a state, and those after them continue from there
 record Splits (fleet : FleetView) (said : JournalState) (first behind : List Entry) (later : JournalState) : Type 0 where
   pub mid : JournalState
   pub leads : follow fleet said first ≡ Some mid
@@ -34,7 +34,7 @@ works_after fleet said (entry ∷ entries) later batch is =
     let one = follows fleet said entry entries later is in
     works_after fleet one.between entries later (moves fleet said batch entry one.between one.first).works one.others
 
--- nobody comes down where no batch is opened
+-- no host goes down if no batch is opened
 falls_after : (fleet : FleetView) (said : JournalState) (entries : List Entry) (later : JournalState) → BatchWorks said → follow fleet said entries ≡ Some later → list_all opens_none entries ≡ true
     → (host : ℕ) → is_down (status_at later.statuses host) ≡ true → is_down (status_at said.statuses host) ≡ true
 falls_after fleet said [] later batch is none host down = let same : said ≡ later = cc in ap (λ (s : JournalState). is_down (status_at s.statuses host)) same ∙ down

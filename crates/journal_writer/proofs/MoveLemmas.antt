@@ -1,4 +1,4 @@
--- Statuses once hosts have moved one behind the other, as a journal moves them.
+-- Statuses after hosts have moved in sequence, as a journal moves them.
 use Rattle.std.proofs.Common.{◌≡◌, ℕ, ◌<◌, length, Bool, true, false, cond, not, ◌&&◌, ◌||◌, ◌==◌, nat_eq, nat_lt, Some, None, List, [], ◌∷◌, set, sym, ap, ◌∙◌, refl, subst, inl, inr, ◌⊎◌, arith}
 use Rattle.std.proofs.lemmas.Bool.{and_from, and_parts, both_ways, cases_eq, eq-eqb, ltb-true, ne_eqb, not-true, or_left, or_right}
 use Rattle.std.proofs.lemmas.List.{ext_get_or, length-set}
@@ -10,20 +10,20 @@ use Rattle.fleet_states.proofs.StatusLemmas.{given, given_none, length-given, st
 use Rattle.journal.specs.Listings.{outcomes_of}
 use Rattle.journal.specs.States.{has_status, is_over, moved, settled, stands}
 
--- the first host of a list stands in it, and so does who stands behind it
+-- a list contains its first host, and the hosts after it
 pub first_stands : (host : ℕ) (hosts : List ℕ) → has_number host (host ∷ hosts) ≡ true
 first_stands host hosts = or_left (nat_eq host host) (has_number host hosts) (eq-eqb host host refl)
 
 pub behind_stands : (first : ℕ) (hosts : List ℕ) (host : ℕ) → has_number host hosts ≡ true → has_number host (first ∷ hosts) ≡ true
 behind_stands first hosts host behind = or_right (nat_eq host first) (has_number host hosts) behind
 
--- who stands behind the first of distinct hosts is another
+-- a host after the first of distinct hosts is another one
 pub other_behind : (first : ℕ) (hosts : List ℕ) (host : ℕ) → are_distinct (first ∷ hosts) ≡ true → has_number host hosts ≡ true → host ≡ first → ⊥
 other_behind first hosts host distinct behind same =
     let fresh = not-true (has_number first hosts) (and_parts (not (has_number first hosts)) (are_distinct hosts) distinct).0 in
     both_ways (has_number first hosts) fresh (sym (ap (λ h. has_number h hosts) same) ∙ behind)
 
--- a host that is given its status before the others
+-- a host that gets its status before the others
 module _ (status : ℕ → Status) (host : ℕ) (hosts : List ℕ) (statuses : List Status) (within : host < length statuses) where
   abbrev first_given : List Status
   first_given = set statuses host (status host)
@@ -58,7 +58,7 @@ module _ (status : ℕ → Status) (host : ℕ) (hosts : List ℕ) (statuses : L
           status_at-given status hosts first_given k (omega (arith, l, length-given status hosts first_given)) ∙ by_case k (cases_eq k host)
           ∙ sym (status_at-given status (host ∷ hosts) statuses k (omega (arith, l, short)))
 
--- hosts that all have the status from which they move, each of them once, move
+-- distinct hosts that all have the status to move from can be moved
 pub moved_given : (before after : Status) (hosts : List ℕ) (statuses : List Status) → ((host : ℕ) → has_number host hosts ≡ true → has_status before statuses host ≡ true)
     → are_distinct hosts ≡ true → moved before after hosts statuses ≡ Some (given (λ _. after) hosts statuses)
 moved_given before after [] statuses have distinct = ap Some (sym (given_none (λ _. after) statuses))
@@ -75,7 +75,7 @@ moved_given before after (host ∷ hosts) statuses have distinct =
         ∙ ap (λ s. nat_lt other (length statuses) && stands before s) (status_at-set_other statuses host after other (other_behind host hosts other distinct behind))
         ∙ have other (behind_stands host hosts other behind)
 
--- a batch is settled by what has become of each of its hosts
+-- the outcome of each of its hosts settles a batch
 pub settled_given : (now : List Status) (batch : List ℕ) (statuses : List Status) → ((host : ℕ) → has_number host batch ≡ true → host < length statuses)
     → ((host : ℕ) → has_number host batch ≡ true → is_over (status_at now host) ≡ true) → settled batch (outcomes_of now batch) statuses ≡ Some (given (status_at now) batch statuses)
 settled_given now [] statuses within over = ap Some (sym (given_none (status_at now) statuses))
@@ -89,7 +89,7 @@ settled_given now (host ∷ hosts) statuses within over =
     inside : (other : ℕ) → has_number other hosts ≡ true → other < length (set statuses host (status_at now host))
     inside other behind = subst (λ (n : ℕ). other < n) (sym (length-set statuses host (status_at now host))) (within other (behind_stands host hosts other behind))
 
--- and then all statuses are as they have become, where those of the other hosts were so before
+-- then all statuses are the current ones, if those of the other hosts were before
 pub given_is : (now : List Status) (batch : List ℕ) (statuses : List Status) → length statuses ≡ length now
     → ((host : ℕ) → has_number host batch ≡ false → status_at statuses host ≡ status_at now host) → given (status_at now) batch statuses ≡ now
 given_is now batch statuses all outside = ext_get_or Idle (given (status_at now) batch statuses) now (long ∙ all) each

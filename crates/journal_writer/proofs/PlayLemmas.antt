@@ -1,4 +1,4 @@
--- Where the entries of a play lead its journal.
+-- The states that the entries of a play lead its journal to.
 use Rattle.std.proofs.Common.{◌≡◌, ℕ, ◌<◌, Bool, true, false, cond, ◌==◌, nat_lt, Option, Some, None, List, [], ◌∷◌, ◌++◌, map, take, drop, sym, ap, ◌∙◌, refl, subst}
 use Rattle.std.specs.Prelude.{option_and_then, if◌then◌else◌}
 use Rattle.std.proofs.lemmas.Bool.{and_from, lt-ltb, or_right}
@@ -28,7 +28,7 @@ use Rattle.journal_writer.proofs.BeginLemmas.{begins_so, begun_truly, restart_re
 use Rattle.journal_writer.proofs.StepLemmas.{IsOfSome, Leads, next_of_some, one_leads, same_statuses, step_leads, unsaid}
 use Rattle.roll_run.specs.Journals.{end_entries, entries, entries_at}
 
--- entries behind others lead on from where those lead
+-- entries after others continue from where those lead
 pub follow_all : (fleet : FleetView) (said mid : JournalState) (first behind : List Entry) → follow fleet said first ≡ Some mid → follow fleet said (first ++ behind) ≡ follow fleet mid behind
 follow_all fleet said mid [] behind is = let same : said ≡ mid = cc in ap (λ (s : JournalState). follow fleet s behind) same
 follow_all fleet said mid (entry ∷ first) behind is = by_next (λ (later : JournalState). follow_all fleet later mid first behind) (journals.next fleet said entry) is
@@ -38,7 +38,7 @@ follow_all fleet said mid (entry ∷ first) behind is = by_next (λ (later : Jou
     by_next rest None leads = absurd (cc)
     by_next rest (Some later) leads = rest later leads
 
--- and lead to the same that the two do
+-- and lead to the same state as the two parts
 pub led_twice : (fleet : FleetView) (said mid : JournalState) (first behind : List Entry) (state : State) → follow fleet said first ≡ Some mid → Leads fleet mid behind state → mid.head ≡ said.head → mid.play ≡ said.play
     → Leads fleet said (first ++ behind) state
 led_twice fleet said mid first behind state is rest head count =
@@ -64,7 +64,7 @@ module _ (fleet : FleetView) (inventory playbook : List ℕ) (roll : Roll) where
       subst (λ (l : List Entry). Leads fleet said l (state_after roll after log)) (sym (map-append (entry_of inventory playbook) (entries_at roll past state event) (entries roll (past ++ event ∷ []) after log)))
       (led_twice fleet said one.later first behind (state_after roll after log) one.leads rest one.same_head one.same_play)
 
--- whoever is in the open batch is down by both
+-- both count each host of the open batch as down
 same_down : (roll : Roll) (said : JournalState) (state : State) → AtWork roll.play state → SaysTruly said state → (host : ℕ) → is_down (status_at said.statuses host) ≡ is_down (status_at state.statuses host)
 same_down roll said state work truly host = by_case (has_number host state.batch) refl
   where
@@ -76,7 +76,7 @@ same_down roll said state work truly host = by_case (has_number host state.batch
     by_case true here = ap is_down (truly.inside host here) ∙ works (has_failed (state.rows host)) ∙ sym (ap is_down (work.works host here))
     by_case false outside = ap is_down (truly.outside host outside)
 
--- a play that has begun, with this log
+-- a play that has started, with this log
 module _ (fleet : FleetView) (inventory playbook : List ℕ) (begun : JournalState) (roll : Roll) (log : List Event) (begun_so : SaysTruly begun (start_state roll))
     (legal : IsLegal roll (start_state roll) log) where
   abbrev end : State
@@ -88,7 +88,7 @@ module _ (fleet : FleetView) (inventory playbook : List ℕ) (begun : JournalSta
   pub led : Leads fleet begun (told inventory playbook (entries roll [] (start_state roll) log)) (end_state roll log)
   led = log_leads fleet inventory playbook roll begun [] (start_state roll) log (start_at_work roll) (λ going. absurd (going refl)) begun_so legal
 
-  -- behind an entry that has it begin, the entries of its log lead to where those of its log do, and from there the one of its end does
+  -- after an entry that starts it, the entries of its log lead where those of its log do, and the entry of its end continues from there
   module _ (said : JournalState) (first : Entry) (begins : follow fleet said (first ∷ []) ≡ Some begun) where
     pub play_leads : (how : Option End) → follow fleet said (first ∷ told inventory playbook (entries roll [] (start_state roll) log ++ end_entries how))
         ≡ follow fleet led.later (told inventory playbook (end_entries how))
@@ -98,7 +98,7 @@ module _ (fleet : FleetView) (inventory playbook : List ℕ) (begun : JournalSta
         ∙ follow_all fleet said begun (first ∷ []) (inside ++ behind) begins
         ∙ follow_all fleet begun led.later inside behind led.leads
 
-    -- so far the journal says truly where it stands
+    -- the journal so far matches its state
     pub play_said : IsSaidTruly fleet said (first ∷ told inventory playbook (entries roll [] (start_state roll) log ++ end_entries None)) (end_state roll log)
     play_said =
         let work : AtWork roll.play end = end_at_work roll log legal in
@@ -110,7 +110,7 @@ module _ (fleet : FleetView) (inventory playbook : List ℕ) (begun : JournalSta
           rests = λ at. same_statuses led.later end led.truly (work.bare at);
         }
 
-  -- and once it has finished
+  -- and does so once it has finished
   module _ (over : (end_state roll log).phase ≡ between) where
     nobody : led.later.open_batch ≡ []
     nobody = led.truly.batch ∙ (end_at_work roll log legal).bare over

@@ -1,4 +1,4 @@
--- Where the entries of a run that goes on lead its journal.
+-- The states that the entries of a resumed run lead its journal to.
 use Rattle.std.proofs.Common.{◌≡◌, ℕ, zero, suc, ◌+◌, ◌-◌, ◌≤◌, ◌<◌, length, Bool, true, false, cond, not, ◌&&◌, ◌||◌, ◌==◌, nat_lt, Option, Some, None, is_none, option_map, List, [], ◌∷◌, ◌++◌, sym, ap, ◌∙◌, refl, subst, arith, inl, inr, ◌⊎◌}
 use Rattle.std.specs.Prelude.{is_some, if◌then◌else◌}
 use Rattle.std.specs.List.{list_all}
@@ -30,7 +30,7 @@ use Rattle.journal_writer.proofs.StepLemmas.{one_leads}
 use Rattle.roll_run.specs.Journals as kept
 use Rattle.roll_run.specs.Journals.{JournalEntry, aside, beginning, closing, end_entries, ended, heading, opening, refused}
 
--- once a play has begun, what there is to keep is as it is in any run
+-- once a play has started, the entries are those of any run
 same_entry : (inventory playbook mended : List ℕ) (entry : JournalEntry) → is_later entry ≡ true → entry_again mended false entry ≡ entry_of inventory playbook entry
 same_entry inventory playbook mended (heading count) is = absurd (cc)
 same_entry inventory playbook mended (beginning statuses) is = refl
@@ -57,14 +57,14 @@ told_alike inventory playbook mended (entry ∷ later) are =
     ∙ ap (λ (first : Entry). first ∷ told_again mended false later) (same_entry inventory playbook mended entry both.0)
     ∙ ap (λ (rest : List Entry). entry_of inventory playbook entry ∷ rest) (told_alike inventory playbook mended later both.1)
 
--- no head stands behind the first entry of a play
+-- no head follows the first entry of a play
 behind_later : (fleet : FleetView) (played : Played) (later : List Played) → list_all is_later (behind_first fleet [] [] played later) ≡ true
 behind_later fleet played [] = play_is_later played.roll played.log None
 behind_later fleet played (second ∷ later) =
     all_later (kept.entries played.roll [] (start_state played.roll) played.log ++ end_entries (Some Finished)) (run_entries second later) (play_is_later played.roll played.log (Some Finished))
     (ap (list_all is_later) (run_begins fleet [] [] second later) ∙ behind_later fleet second later)
 
--- the statuses with which a play goes on
+-- the statuses with which a play continues
 waits_never : (s : Status) → is_waiting (at_rest s) ≡ false
 waits_never Idle = refl
 waits_never Waiting = refl
@@ -134,14 +134,14 @@ module _ (fleet : FleetView) (said : JournalState) (mended_hosts : List ℕ) (fi
   goes_so = one_leads fleet said mid (resumed mended_hosts)
       (ap (λ b. cond b (Some mid) None) (and_from (is_some said.head) (are_hosts fleet mended_hosts) goes.known goes.hosts))
 
-  -- the run goes on from where this entry has it begin
+  -- the run continues from where this entry starts it
   record Begins (going : Bool) : Type 0 where
     begun : JournalState
     leads : follow fleet mid (entry_again mended_hosts going (beginning start) ∷ []) ≡ Some begun
     truly : SaysTruly begun (start_state first.roll)
     few : begun.play + length later ≤ plays_of begun.head
 
-  -- where the play in which it broke off goes on
+  -- if the interrupted play continues
   begins_again : is_under_way mid ≡ true → start ≡ resumed_start true goes.target (rested mended_hosts said.statuses)
       → (if true then mid.play - 1 else mid.play) + 1 + length later ≤ plays_of said.head → Begins true
   begins_again going starts few =
@@ -157,7 +157,7 @@ module _ (fleet : FleetView) (said : JournalState) (mended_hosts : List ℕ) (fi
         few = omega (arith, few, some);
       }
 
-  -- a play that has ended and is not gone on with has finished, and there is one more
+  -- a play that has ended and does not continue has finished, and there is one more
   may_come : (count : ℕ) (end : Option End) (one_more : Bool) → (nat_lt 0 count && is_none (if one_more then end else None)) ≡ false → (one_more ≡ true → is_finished end ≡ true)
       → ((count == 0) || is_finished (if one_more then end else None)) ≡ true
   may_come zero end one_more over finished = refl
@@ -206,7 +206,7 @@ module _ (fleet : FleetView) (said : JournalState) (mended_hosts : List ℕ) (fi
 pub resumed_runs_are_said_truly : ResumedRunsAreSaidTruly
 resumed_runs_are_said_truly fleet said mended count first later goes = resumed_said fleet said mended first later goes count
 
--- who is down
+-- which hosts are down
 awaits_down : (s : Status) (listed : Bool) → is_down (cond listed (awaited s) s) ≡ is_down s
 awaits_down s false = refl
 awaits_down Idle true = refl

@@ -1,4 +1,4 @@
--- Where the entries of a whole run lead its journal.
+-- The states that the entries of an entire run lead its journal to.
 use Rattle.std.proofs.Common.{◌≡◌, ℕ, suc, ◌+◌, ◌≤◌, ◌<◌, length, true, cond, ◌&&◌, nat_le, Some, None, List, [], ◌∷◌, ◌++◌, sym, ap, ◌∙◌, refl, subst, arith}
 use Rattle.std.specs.Prelude.{min}
 use Rattle.std.proofs.lemmas.Bool.{and_from, le-leb, lt-ltb}
@@ -21,14 +21,14 @@ use Rattle.journal_writer.proofs.PlayLemmas.{finishes, follow_all, led, next_com
 use Rattle.journal_writer.proofs.StepLemmas.{one_leads}
 use Rattle.roll_run.specs.Journals.{JournalEntry, beginning, end_entries, entries}
 
--- entries that lead to where others say truly of a state do so with them
+-- entries that lead to where others match a state match it together with them
 pub behind_said : (fleet : FleetView) (said mid : JournalState) (first behind : List Entry) (played : Played) → follow fleet said first ≡ Some mid → IsSaidTruly fleet mid behind (end_of played)
     → IsSaidTruly fleet said (first ++ behind) (end_of played)
 behind_said fleet said mid first behind played leads rest =
     record { later = rest.later; leads = follow_all fleet said mid first behind leads ∙ rest.leads; truly = rest.truly; down = rest.down; rests = rest.rests }
 
 module _ (fleet : FleetView) (inventory playbook : List ℕ) where
-  -- plays, the first of which has begun with this entry, and the others come behind it
+  -- plays, the first of which has started with this entry and is followed by the others
   abbrev pub behind_first : Played → List Played → List JournalEntry
   behind_first played [] = entries played.roll [] (start_state played.roll) played.log ++ end_entries None
   behind_first played (next ∷ later) = (entries played.roll [] (start_state played.roll) played.log ++ end_entries (Some Finished)) ++ run_entries next later
@@ -63,7 +63,7 @@ module _ (fleet : FleetView) (inventory playbook : List ℕ) where
       (plays_begun said (plays said played.roll.start) (play (waiting_hosts played.roll.start)) played later (begins_so said played.roll.start comes fleet)
       (begun_truly said played.roll comes.nobody) turn (omega (arith, few)))
 
-  -- the head of a journal of so many plays
+  -- the head of a journal of this many plays
   abbrev head_of : ℕ → Head
   head_of plays = record { inventory = digest_of inventory; playbook = digest_of playbook; plays = min plays most_plays }
 

@@ -1,4 +1,4 @@
--- Where the entry of an event leads a journal, against where the event leads the log.
+-- The state that the entry of an event leads a journal to, compared with the state of the log after the event.
 use Rattle.std.proofs.Common.{◌≡◌, ℕ, suc, ◌<◌, length, Bool, true, false, cond, not, ◌&&◌, Option, Some, None, option_map, List, [], ◌∷◌, map, sym, ap, ◌∙◌, refl, subst, arith}
 use Rattle.std.specs.Prelude.{option_and_then, if◌then◌else◌}
 use Rattle.std.proofs.lemmas.Bool.{and_from, and_parts, both_ways, lt-ltb}
@@ -29,11 +29,11 @@ use Rattle.journal_writer.proofs.MoveLemmas.{given_is, moved_given, settled_give
 use Rattle.roll_run.proofs.Lengths.{as_many}
 use Rattle.roll_run.specs.Journals.{entries_at}
 
--- an open batch is of somebody
+-- an open batch has a host
 abbrev pub IsOfSome : State → Type 0
 IsOfSome state = (state.phase ≡ between → ⊥) → is_nobody state.batch ≡ false
 
--- the entries lead the journal where it says truly of the state
+-- the entries lead the journal to where it matches the state
 pub record Leads (fleet : FleetView) (said : JournalState) (entries : List Entry) (state : State) : Type 0 where
   pub later : JournalState
   pub leads : follow fleet said entries ≡ Some later
@@ -41,7 +41,7 @@ pub record Leads (fleet : FleetView) (said : JournalState) (entries : List Entry
   pub same_head : later.head ≡ said.head
   pub same_play : later.play ≡ said.play
 
--- no entry leads nowhere else
+-- without an entry the state stays the same
 pub unsaid : (fleet : FleetView) (said : JournalState) (state : State) → SaysTruly said state → Leads fleet said [] state
 unsaid fleet said state truly = record { later = said; leads = refl; truly = truly; same_head = refl; same_play = refl }
 
@@ -64,7 +64,7 @@ next_of_some roll state (events.passed step) may some = λ going. some (λ at. l
 next_of_some roll state events.closed may some =
     subst (λ (phase : Phase). IsOfSome (closed_state phase state)) (sym may.at) (λ going. absurd (going refl))
 
--- where the batch is of nobody all statuses are the same
+-- if the batch has no host all statuses are the same
 pub same_statuses : (said : JournalState) (state : State) → SaysTruly said state → state.batch ≡ [] → said.statuses ≡ state.statuses
 same_statuses said state truly none =
     ext_get_or Idle said.statuses state.statuses truly.all (λ k l. truly.outside k (ap (has_number k) none))
@@ -151,7 +151,7 @@ module _ (fleet : FleetView) (roll : Roll) (said : JournalState) (state : State)
       apart other outside same =
           both_ways true (sym (work.inside host out) ∙ sym (ap (λ h. has_number h state.batch) same) ∙ outside) refl
 
-  -- the batch is over
+  -- the batch has ended
   module _ (halt : Option ℕ) (some : is_nobody state.batch ≡ false) where
     abbrev now : List Status
     now = changed (at_rest halt) state.batch state.statuses
@@ -208,7 +208,7 @@ module _ (fleet : FleetView) (roll : Roll) (said : JournalState) (state : State)
           same_play = refl;
         }
 
--- what there is to keep of an event leads the journal to where the event leads the log
+-- the entries of an event lead the journal to where the event leads the log
 module _ (fleet : FleetView) (inventory playbook : List ℕ) (roll : Roll) (said : JournalState) (behind : List Event) (state : State) where
   pub step_leads : (event : Event) → Allowed roll state event → AtWork roll.play state → IsOfSome state → SaysTruly said state
       → Leads fleet said (map (entry_of inventory playbook) (entries_at roll behind state event)) (next roll state event)

@@ -1,4 +1,4 @@
--- What a file takes, entry by entry.
+-- What a file accepts, entry by entry.
 use Rattle.std.proofs.Common.{◌≡◌, inl, inr, ℕ, Bool, true, false, Option, Some, None, List, [], ◌∷◌, ◌++◌, sym, ap, ◌∙◌, refl, subst, append_assoc}
 use Rattle.std.specs.Prelude.{drop, take}
 use Rattle.std.specs.Io.KnownBytes.{Appends}
@@ -33,7 +33,7 @@ none_opens entry entries closed none (other ∷ before) after behind batch is =
     let rest : entries ≡ before ++ opening behind batch ∷ after = cc in
     none before after behind batch rest
 
--- texts that are the same of all entries are taken alike
+-- texts that agree on all entries are accepted alike
 pub takes_as : (one other : List JournalEntry → List ℕ) (entries : List JournalEntry) (old new : Option (List ℕ)) (whole : Bool) → ((entries : List JournalEntry) → one entries ≡ other entries)
     → TakesEntries one entries old new whole → TakesEntries other entries old new whole
 takes_as one other entries old new whole same takes = record {
@@ -50,19 +50,19 @@ takes_as one other entries old new whole same takes = record {
         let more = takes.opened before after behind batch is in
         (more.0, more.1 ∙ ap (λ l. l ++ more.0) (same (before ++ opening behind batch ∷ [])))
 
--- nothing more is taken where something is lacking, and no batch opens
+-- an incomplete journal accepts nothing more, and no batch opens
 pub record IsStuck (entries : List JournalEntry) (old new : Option (List ℕ)) (whole : Bool) : Type 0 where
   pub same : new ≡ old
   pub lacks : whole ≡ false
   pub none : NoneOpens entries
 
--- what an entry does to what is known of the file's bytes
+-- how an entry changes what is known of the file's bytes
 pub record Steps (old new : Option (List ℕ)) (was whole : Bool) (text : List ℕ) (entry : JournalEntry) : Type 0 where
   pub stays : was ≡ false → (new ≡ old) × (whole ≡ false)
   pub takes : was ≡ true → Takes old new text whole
   pub opens : (behind : List Event) (batch : List ℕ) → entry ≡ opening behind batch → whole ≡ true
 
--- the text of entries, each by how things stand behind those before it
+-- the text of entries, each depending on the state after those before it
 module _ {G : Type 0} (text : G → JournalEntry → List ℕ) (next : G → JournalEntry → G) where
   abbrev pub texts : G → List JournalEntry → List ℕ
   texts at [] = []

@@ -1,4 +1,4 @@
--- Safe rolls come one behind the other.
+-- Safe runs come in sequence.
 use Rattle.std.proofs.Common.{◌≡◌, ℕ, ◌≤◌, length, map, List, [], ◌∷◌, ap, refl, arith}
 use Rattle.domains.specs.FleetViews.{FleetView}
 use Rattle.fleet_states.specs.Starts.{start_statuses}
@@ -18,7 +18,7 @@ use Rattle.roll_run.specs.Runs.{roll_by}
 abbrev played_by : Roll → List Event → Played
 played_by roll log = record { roll = roll; log = log }
 
--- the plays behind one
+-- the plays after one
 record AreBehind (roll : Roll) (log : List Event) (plays : ℕ) (logs : List (List Event)) : Type 0 where
   pub later : List Played
   pub in_turn : ComeInTurn (played_by roll log) later

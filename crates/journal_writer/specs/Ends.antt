@@ -1,4 +1,4 @@
--- What a journal says of a run that is over.
+-- What a journal states about a run that has ended.
 use Rattle.std.specs.Prelude.{◌≡◌, ℕ, true, Some, List, [], ◌∷◌, ◌++◌}
 use Rattle.domains.specs.FleetViews.{FleetView}
 use Rattle.play_forecast.specs.declared.end.End.{End}
@@ -8,7 +8,7 @@ use Rattle.journal.specs.States.{JournalState, may_end, state_after}
 use Rattle.journal_writer.specs.Laws.{IsUnderWay, Played, end_of, last_of}
 use Rattle.journal_writer.specs.Losses.{run_told}
 
--- a reader takes these entries, and by them the play has ended so, nobody is in a batch, and each host has its status in the log's state
+-- these entries can be read; by them the play has ended this way, no host is in a batch, and each host has its status in the log's state
 pub record IsSaidToEnd (fleet : FleetView) (entries : List Entry) (how : End) (state : State) : Type 0 where
   pub said : JournalState
   pub leads : state_after fleet entries ≡ Some said
@@ -16,7 +16,7 @@ pub record IsSaidToEnd (fleet : FleetView) (entries : List Entry) (how : End) (s
   pub nobody : said.open_batch ≡ []
   pub statuses : said.statuses ≡ state.statuses
 
--- where the last play of a run is over, the entries with its end, one that a play of the fleet may have, say truly how it ended
+-- if the last play of a run has ended, the entries with an end that a play of the fleet can have match that end
 abbrev pub EndsAreSaidTruly : Type 0
 EndsAreSaidTruly =
     (fleet : FleetView) (inventory playbook : List ℕ) (plays : ℕ) (first : Played) (later : List Played) (how : End) → IsUnderWay fleet plays first later

@@ -1,4 +1,4 @@
--- What a journal that was cut off, or has a line more, says of its run.
+-- What a journal that was truncated, or has one line more, states about its run.
 use Rattle.std.specs.Prelude.{◌≡◌, ℕ, ◌≤◌, Bool, true, false, Some, List, [], ◌∷◌, ◌++◌, length, take}
 use Rattle.std.specs.List.{list_all}
 use Rattle.domains.specs.FleetViews.{FleetView, IsSound}
@@ -23,7 +23,7 @@ opens_none (ended end) = true
 opens_none (resumed hosts) = true
 opens_none (again hosts) = true
 
--- the entry may stand in a journal before what it says has come to be in the log: a batch opens, or the play has ended
+-- the entry may be in a journal before the log has what it records: a batch opens, or the play has ended
 abbrev pub may_be_ahead : Entry → Bool
 may_be_ahead (begun head) = false
 may_be_ahead (play hosts) = false
@@ -34,30 +34,30 @@ may_be_ahead (ended end) = true
 may_be_ahead (resumed hosts) = false
 may_be_ahead (again hosts) = false
 
--- a reader takes these entries for a journal, and by them everybody is down who is so in the log's state
+-- these entries can be read as a journal, and every host that is down in the log's state is down by them
 pub record LosesNobody (fleet : FleetView) (entries : List Entry) (state : State) : Type 0 where
   pub said : JournalState
   pub leads : state_after fleet entries ≡ Some said
   pub down : (host : ℕ) → is_down (status_at state.statuses host) ≡ true → is_down (status_at said.statuses host) ≡ true
 
--- the entries of a run of these texts, so far
+-- the entries of a run of these files, so far
 abbrev pub run_told : List ℕ → List ℕ → ℕ → Played → List Played → List Entry
 run_told inventory playbook plays first later = told inventory playbook (heading plays ∷ run_entries first later)
 
--- with whatever is lost of a journal behind its last entry that opens a batch, nobody is lost
+-- if entries after the last one that opens a batch are lost from a journal, no down host is
 abbrev pub TruncationKeepsDownHosts : Type 0
 TruncationKeepsDownHosts =
     (fleet : FleetView) (inventory playbook : List ℕ) (plays : ℕ) (first : Played) (later : List Played) (left lost : List Entry) → IsUnderWay fleet plays first later
     → run_told inventory playbook plays first later ≡ left ++ lost → list_all opens_none lost ≡ true → LosesNobody fleet left (end_of (last_of first later))
 
--- nor with one entry more that is ahead of the log
+-- likewise with one more entry that is ahead of the log
 abbrev pub ExtraEntryKeepsDownHosts : Type 0
 ExtraEntryKeepsDownHosts =
     (fleet : FleetView) (inventory playbook : List ℕ) (plays : ℕ) (first : Played) (later : List Played) (more : Entry) (said : JournalState) → IsUnderWay fleet plays first later
     → may_be_ahead more ≡ true → state_after fleet (run_told inventory playbook plays first later ++ more ∷ []) ≡ Some said
     → LosesNobody fleet (run_told inventory playbook plays first later ++ more ∷ []) (end_of (last_of first later))
 
--- entries are read of the text, and no others; the journal begins with them, and where the rest opens no batch nobody is lost with it
+-- exactly these entries are read from the file, and are a prefix of the journal; if the rest opens no batch, no down host is lost with it
 pub record IsReadWithoutLoss (fleet : FleetView) (text : List ℕ) (entries : List Entry) (state : State) : Type 0 where
   pub left : List Entry
   pub lost : List Entry
@@ -65,7 +65,7 @@ pub record IsReadWithoutLoss (fleet : FleetView) (text : List ℕ) (entries : Li
   pub reads : IsReadOnlyAs fleet text left
   pub loses : list_all opens_none lost ≡ true → LosesNobody fleet left state
 
--- the same of the bytes of a journal, wherever it is cut off
+-- likewise for the bytes of a journal that is truncated anywhere
 abbrev pub CutBytesKeepDownHosts : Type 0
 CutBytesKeepDownHosts =
     (fleet : FleetView) (inventory playbook : List ℕ) (plays : ℕ) (first : Played) (later : List Played) (count : ℕ) → IsSound fleet → HasPlainNames fleet → IsUnderWay fleet plays first later

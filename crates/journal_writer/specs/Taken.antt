@@ -1,4 +1,4 @@
--- What the file of a journal took of what there was to keep of a run.
+-- What the file of a journal has of the entries of a run.
 use Rattle.std.specs.Prelude.{◌≡◌, ◌⊎◌, ℕ, Bool, true, false, Option, Some, List, [], ◌∷◌, ◌++◌, map}
 use Rattle.std.specs.Io.KnownBytes.{Appends}
 use Rattle.domains.specs.FleetViews.{FleetView}
@@ -10,17 +10,17 @@ use Rattle.event_log.specs.Rolls.{Roll}
 use Rattle.event_log.specs.States.{start_state}
 use Rattle.roll_run.specs.Journals.{JournalEntry, heading, opening, play_entries, refused}
 
--- no batch of these entries opens
+-- no batch opens in these entries
 abbrev pub NoneOpens : List JournalEntry → Type 0
 NoneOpens entries = (before after : List JournalEntry) (behind : List Event) (batch : List ℕ) → entries ≡ before ++ opening behind batch ∷ after → ⊥
 
--- the bytes begin with the text of the entries up to each batch that opens
+-- the bytes start with the text of the entries up to each batch that opens
 abbrev pub HoldsOpened : (List JournalEntry → List ℕ) → List JournalEntry → List ℕ → Type 0
 HoldsOpened text_of entries bytes =
     (before after : List JournalEntry) (behind : List Event) (batch : List ℕ) → entries ≡ before ++ opening behind batch ∷ after
     → (more : List ℕ) × (bytes ≡ text_of (before ++ opening behind batch ∷ []) ++ more)
 
--- the first bytes of the text of the entries were added, those up to each batch that opens among them; and all, if nothing is lacking
+-- the first bytes of the text of the entries were added, including those up to each batch that opens; and all, if the journal is complete
 pub record TakesEntries (text_of : List JournalEntry → List ℕ) (entries : List JournalEntry) (old new : Option (List ℕ)) (is_whole : Bool) : Type 0 where
   pub taken : List ℕ
   pub left : List ℕ
@@ -29,18 +29,18 @@ pub record TakesEntries (text_of : List JournalEntry → List ℕ) (entries : Li
   pub opened : HoldsOpened text_of entries taken
   pub all : is_whole ≡ true → Appends old new (text_of entries)
 
--- so it is of a file that was so at first, of whose bytes this is known by now
+-- this holds for a file that was in this state at first, and of whose bytes this is now known
 pub record TakesFrom {F : Type 0} (contents : F → Option (List ℕ)) (IsFirst : F → Type 0) (text_of : List JournalEntry → List ℕ) (entries : List JournalEntry) (is_whole : Bool) : Type 0 where
   pub first : F
   pub is_first : IsFirst first
   pub now : Option (List ℕ)
   pub takes : TakesEntries text_of entries (contents first) now is_whole
 
--- or there is none that took the first entry; then something is lacking, and no batch opens
+-- or no file has the first entry; then the journal is incomplete, and no batch opens
 abbrev pub IsTaken : {F : Type 0} → (F → Option (List ℕ)) → (F → Type 0) → (List JournalEntry → List ℕ) → List JournalEntry → Bool → Type 0
 IsTaken contents IsFirst text_of entries is_whole = TakesFrom contents IsFirst text_of entries is_whole ⊎ ((is_whole ≡ false) × NoneOpens entries)
 
--- what there is to keep of plays with these logs that ended so, one behind the other
+-- what is recorded of plays with these logs and ends, in sequence
 abbrev pub AreEntries : FleetView → List (Option End) → List (List Event) → List JournalEntry → Type 0
 AreEntries fleet [] [] entries = entries ≡ []
 AreEntries fleet [] (log ∷ logs) entries = ⊥
@@ -53,7 +53,7 @@ AreEntries fleet (end ∷ ends) (log ∷ logs) entries =
 abbrev pub IsOneMore : List JournalEntry → Type 0
 IsOneMore more = (more ≡ []) ⊎ ((behind : List Event) × (batch : List ℕ) × ((more ≡ opening behind batch ∷ []) ⊎ (more ≡ refused behind batch ∷ [])))
 
--- of plays that may have been broken off; and at most one entry more
+-- of plays that may have been interrupted; and at most one more entry
 pub record EntriesAhead (fleet : FleetView) (logs : List (List Event)) (entries : List JournalEntry) : Type 0 where
   pub ends : List (Option End)
   pub own : List JournalEntry
@@ -67,8 +67,8 @@ abbrev pub EntriesOf : FleetView → Bool → List (List Event) → List Journal
 EntriesOf fleet true logs entries = (ends : List End) × AreEntries fleet (map Some ends) logs entries
 EntriesOf fleet false logs entries = EntriesAhead fleet logs entries
 
--- the file took what there is to keep of a run with these logs, behind how many plays there are: all of it, if the run ended; and otherwise at least what tells of each batch that opened, and all
--- before that
+-- after the number of plays, the file has what is recorded of a run with these logs: all of it if the run ended, and otherwise at least the
+-- entry of each batch that opened, and everything before it
 pub record KeepsRun {F : Type 0} (contents : F → Option (List ℕ)) (IsFirst : F → Type 0) (text_of : List JournalEntry → List ℕ) (fleet : FleetView) (plays : ℕ) (has_ended : Bool) (logs : List (List Event)) : Type 0 where
   pub entries : List JournalEntry
   pub are : EntriesOf fleet has_ended logs entries

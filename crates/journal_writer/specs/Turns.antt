@@ -14,14 +14,14 @@ use Rattle.roll_run.specs.Plays.{AreSafeRolls}
 abbrev pub log_of : Played → List Event
 log_of played = played.log
 
--- so many plays are to come, and those that have begun have these logs
+-- this many plays are to come, and those that have started have these logs
 pub record AreUnderWay (fleet : FleetView) (plays : ℕ) (logs : List (List Event)) : Type 0 where
   pub first : Played
   pub later : List Played
   pub way : IsUnderWay fleet plays first later
   pub logs_are : logs ≡ log_of first ∷ map log_of later
 
--- logs of safe rolls, the first of which begins with the fleet's statuses, are those of plays that come one behind the other
+-- logs of safe runs, the first of which starts with the fleet's statuses, are those of plays in sequence
 abbrev pub SafeRollsAreUnderWay : (Work → Ending → Type 0) → Type 0
 SafeRollsAreUnderWay may =
     (fleet : FleetView) (forks : ℕ) (plays : List Play) (target : List ℕ) (vars : List Vars) (log : List Event) (logs : List (List Event)) → length plays ≤ most_plays

@@ -1,4 +1,4 @@
-//! Whoever keeps a run that goes on, in the journal of the one that broke off.
+//! Recording a resumed run.
 ghost use Rattle.std.specs.Prelude.{◌≡◌, true};
 ghost use Rattle.journal.specs.Entries.{entry_text};
 ghost use Rattle.journal_writer.specs.Keepings.{entry_said};
@@ -15,23 +15,23 @@ use roll_core::Moment;
 use roll_run::Recorder;
 use std::alloc::Global;
 
-/// Keeps a run that goes on, in the journal of the one that broke off, whose lines are whole. That a batch opens is on the disk before any of its programs is
-/// started, with all that was said before it. Where the journal doesn't take a line whole, or can't be had on the disk, nothing more is kept, and no further batch
-/// opens.
+/// Records a resumed run in the journal of the interrupted one, whose lines are complete. The opening of a batch is on the disk before any
+/// of its programs is started, with every record before it. If the journal doesn't accept a complete line, or it can't be synced to the
+/// disk, nothing more is recorded and no further batch opens.
 #[derive(Drop)]
 pub struct JournalAppender<'k, F: DurableFile> {
     alloc: Global,
     file: F,
-    /// Whether it has all that was to be kept.
+    /// Whether the journal has everything that was to be recorded.
     is_whole: bool,
-    /// The hosts that are up by now.
+    /// The hosts that are back up.
     mended: &'k [HostId],
-    /// Whether the play that begins next is the one in which the run broke off.
+    /// Whether the play that starts next is the interrupted one.
     goes_on: bool,
 }
 
 impl<'k, F: DurableFile> JournalAppender<'k, F> {
-    /// In this journal, with these hosts up by now.
+    /// Returns a recorder for this journal, with these hosts back up.
     pub fn new(
         alloc: Global,
         file: F,
@@ -52,7 +52,7 @@ impl<'k, F: DurableFile> JournalAppender<'k, F> {
         }
     }
 
-    /// Adds what is said to the journal, where that has all that was said before.
+    /// Adds a record to the journal, if the journal has every earlier record.
     fn add(&mut self, fleet: &Fleet, said: JournalRecord<'_>, syncs: bool)
         ensures adds { Adds F.contents (entry_text fleet.now (entry_said said.entry)) self.old.file self.old.is_whole self.new.file self.new.is_whole }
         ensures synced { syncs ≡ true → self.new.is_whole ≡ true → F.is_on_disk self.new.file }

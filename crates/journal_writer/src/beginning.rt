@@ -1,4 +1,4 @@
-//! The journal of a run that begins as one that goes on does.
+//! A new journal for a run that starts as a resumed one does.
 ghost use Rattle.std.specs.Prelude.{IfSome};
 ghost use Rattle.journal_writer.specs.Beginnings.{HasHead};
 
@@ -8,8 +8,8 @@ use crate::writer::told_plays;
 use domains::Fleet;
 use std::alloc::Global;
 
-/// A new journal under this name, which has the head of a run of these texts with so many plays, and nothing else: the run goes on from there, with hosts that are up by now. There is none
-/// where the file can't be made or doesn't take the head whole.
+/// Creates a journal under this name that has only the head of a run of these files with this many plays. The run continues from there,
+/// with hosts that are back up. Returns nothing if the file can't be created or doesn't accept the complete head.
 pub fn begin_journal<S: JournalStore>(
     alloc: Global,
     shelf: &S,

@@ -1,10 +1,10 @@
-//! Whether a run was kept.
+//! Whether a run was recorded completely.
 ghost use Rattle.std.specs.Prelude.{◌≡◌, Bool, true};
 
 use roll_core::NoObserver;
 use roll_run::Recorder;
 
-/// A keeper who tells whether all was kept that was to be.
+/// A recorder that reports whether everything was recorded.
 pub trait IsComplete: Recorder {
     ghost is_whole_now: { Self → Bool };
 
@@ -12,7 +12,7 @@ pub trait IsComplete: Recorder {
         ensures { result ≡ is_whole_now self.now };
 }
 
-/// Where nothing is to be kept, all was.
+/// If nothing is to be recorded, everything was.
 impl IsComplete for NoObserver {
     ghost is_whole_now = { λ _. true };
 

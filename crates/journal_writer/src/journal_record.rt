@@ -1,4 +1,4 @@
-//! What is said in a journal.
+//! The records of a journal.
 ghost use Rattle.std.specs.Prelude.{◌≡◌, OnErr, OnOk, [], true};
 ghost use Rattle.bounded_io.specs.Sending.{SendsText};
 ghost use Rattle.bounded_io.specs.Writing.{Writes};
@@ -17,23 +17,23 @@ use journal::{
 use std::alloc::{AllocError, Global};
 use std::io::Write;
 
-/// What is said in a journal: one line of it.
+/// One line of a journal.
 #[derive(Clone, Copy)]
 pub enum JournalRecord<'s> {
-    /// Of which texts the run is, the inventory's and the playbook's, and how many plays there are.
+    /// The inventory and playbook files of the run, and how many plays there are.
     Head(&'s [u8], &'s [u8], u16),
     Play(&'s [Status]),
     Held(&'s [HostId]),
     Open(&'s [HostId]),
     Closed(&'s [HostId], &'s [Status]),
     End(play_forecast::End),
-    /// That the run is resumed, where these hosts are up by now.
+    /// The run is resumed, with these hosts back up.
     Resumed(&'s [HostId]),
-    /// With which statuses its play goes on.
+    /// The statuses with which its play continues.
     Again(&'s [Status]),
 }
 
-/// Writes what is said. Want of memory writes nothing.
+/// Writes a record. If an allocation fails, writes nothing.
 fn write_said<W: Write>(
     alloc: Global,
     text: &mut TextWriter<'_, W>,
@@ -64,7 +64,7 @@ fn write_said<W: Write>(
     }
 }
 
-/// Sends what is said, and tells where that broke off, if it did. Where memory is wanting for it, nothing goes out.
+/// Sends a record to the file, and reports where that was interrupted, if it was. If an allocation fails, writes nothing.
 fn send<F: Write>(
     alloc: Global,
     file: &mut F,
@@ -79,7 +79,7 @@ fn send<F: Write>(
     (written, text.finish())
 }
 
-/// Has the file take what is said, and says whether it did; where it is to be on the disk, whether it is.
+/// Writes a record to the file, and syncs it if requested. Reports whether all of that succeeded.
 #[tactic(auto, using(crate::proofs::Takings::untaken))]
 pub(crate) fn take<F: DurableFile>(
     alloc: Global,

@@ -1,4 +1,4 @@
-//! What the journal of a run says of it, whoever kept it.
+//! What the journal of a run states about the run, whatever recorded it.
 ghost use Rattle.journal_writer.specs.Ends.{EndsAreSaidTruly};
 ghost use Rattle.journal_writer.specs.Laws.{PlaysAreSaidTruly, JournalMatchesRun};
 ghost use Rattle.journal_writer.specs.Losses.{CutBytesKeepDownHosts, TruncationKeepsDownHosts, ExtraEntryKeepsDownHosts};
@@ -7,54 +7,54 @@ ghost use Rattle.journal_writer.specs.Resumings.{ResumedRunsAreSaidTruly, Resume
 
 use roll_core::Runner;
 
-/// At whatever moment of a play, the journal's lines up to there are lines that a reader takes, and tell where the play stands: the hosts of the open batch
-/// run, and every other host has the status that it has in the run; so each host that is down at that moment is down by the journal, and no other is.
+/// At every point of a play, the journal's lines so far can be read, and match the play. The hosts of the open batch are running, and every
+/// other host has the status it has in the run. So exactly the hosts that are down at that point are down by the journal.
 pub fn journal_matches_plays()
     ensures { PlaysAreSaidTruly }
 {}
 
-/// The same at whatever moment of a whole run, from the head of its journal on, play behind play.
+/// Likewise at every point of an entire run, from the head of its journal on, play by play.
 pub fn runs_are_said_truly()
     ensures { JournalMatchesRun }
 {}
 
-/// Once its last play is over, the journal of a run with the line of that end says how it ended, and of each host the status that it has.
+/// Once its last play has ended, the journal of a run, including the line of that end, states how it ended and each host's status.
 pub fn ends_are_said_truly()
     ensures { EndsAreSaidTruly }
 {}
 
-/// With the lines of a journal that are lost behind its last `open` line nobody is lost: each host that is down in the run is down by what is left.
+/// Losing the lines after the last `open` line of a journal loses no down host. Each host that is down in the run is down by what is left.
 pub fn nothing_is_lost()
     ensures { TruncationKeepsDownHosts }
 {}
 
-/// Nor does one line more lose anybody, that a batch opens or how the play ended, where the journal has it before the run has come to it.
+/// Likewise if the journal has one line ahead of the run, for the opening of a batch or the end of the play.
 pub fn one_ahead_loses_nobody()
     ensures { ExtraEntryKeepsDownHosts }
 {}
 
-/// Wherever the bytes of a journal are cut off, what is read of them is a beginning of its entries; and if its last `open` line is there still, each host that
-/// is down in the run is down by what is read.
+/// If the bytes of a journal are truncated anywhere, a prefix of its entries is read. If its last `open` line remains, each host that is
+/// down in the run is down by what is read.
 pub fn cut_journals_lose_nobody()
     ensures { CutBytesKeepDownHosts }
 {}
 
-/// The logs of the runs of a file of plays are those of plays that come one behind the other, as the laws of journals want them.
+/// The logs of the runs of a file of plays are those of consecutive plays, as the laws of journals require.
 pub fn safe_rolls_are_under_way<R: Runner>(runner: &R)
     ensures { SafeRollsAreUnderWay (R.may runner.now) }
 {}
 
-/// At whatever moment of a run that goes on where its journal says that it broke off, the journal with the entries of both says truly where it stands.
+/// At every point of a run that continues from its journal's interruption, the journal with the entries of both matches the run.
 pub fn resumed_runs_are_said_truly()
     ensures { ResumedRunsAreSaidTruly }
 {}
 
-/// A run that goes on counts everybody as down who is so by the journal, but for those who are up by now.
+/// A resumed run counts every host as down that is down by the journal, except those that are back up.
 pub fn resumes_count_who_is_down()
     ensures { ResumesCountWhoIsDown }
 {}
 
-/// Who was updated in the play that goes on stays so, and no batch of it is for them.
+/// A host that was updated in the play that continues stays updated, and is in no further batch of it.
 pub fn updated_hosts_stay()
     ensures { UpdatedHostsStay }
 {}

@@ -1,4 +1,4 @@
-//! A run is kept in its journal.
+//! Recording a run in its journal.
 #![tactic(auto)]
 
 mod appender;

@@ -1,4 +1,4 @@
-//! Whoever keeps a run in a journal.
+//! Recording a run in a new journal.
 ghost use Rattle.std.specs.Prelude.{◌≡◌, IfSome, None, is_some, min, true};
 ghost use Rattle.journal.specs.Entries.{entry_text};
 ghost use Rattle.journal_writer.specs.Keepings.{Adds, Makes, entry_said, most_plays};
@@ -14,8 +14,9 @@ use roll_core::Moment;
 use roll_run::Recorder;
 use std::alloc::Global;
 
-/// Keeps a run in a journal, a file that it makes when the plays begin. That a batch opens is on the disk before any of its programs is started, with all that
-/// was said before it. Where the file can't be made, doesn't take a line whole, or can't be had on the disk, nothing more is kept, and no further batch opens.
+/// Records a run in a journal, a file that it creates when the plays start. The opening of a batch is on the disk before any of its
+/// programs is started, with every record before it. If the file can't be created, synced to the disk, or doesn't accept a complete line,
+/// nothing more is recorded and no further batch opens.
 #[derive(Drop)]
 pub struct JournalWriter<'k, S: JournalStore> {
     alloc: Global,
@@ -23,14 +24,14 @@ pub struct JournalWriter<'k, S: JournalStore> {
     name: &'k str,
     inventory: &'k [u8],
     playbook: &'k [u8],
-    /// The journal, once it is made.
+    /// The journal, once it is created.
     file: Option<S::Journal>,
-    /// Whether it has all that was to be kept.
+    /// Whether the journal has everything that was to be recorded.
     is_whole: bool,
 }
 
 impl<'k, S: JournalStore> JournalWriter<'k, S> {
-    /// Of a run of these texts, in a file of this name that is still to be made.
+    /// Returns a recorder of a run of these files, in a file of this name that is still to be created.
     pub fn new(
         alloc: Global,
         shelf: &'k S,
@@ -55,7 +56,7 @@ impl<'k, S: JournalStore> JournalWriter<'k, S> {
         }
     }
 
-    /// Adds what is said to the journal, where that has all that was said before.
+    /// Adds a record to the journal, if the journal has every earlier record.
     fn add(&mut self, fleet: &Fleet, said: JournalRecord<'_>, syncs: bool)
         ensures adds { Adds S.Journal.contents (entry_text fleet.now (entry_said said.entry)) self.old.file self.old.is_whole self.new.file self.new.is_whole }
         ensures synced { syncs ≡ true → self.new.is_whole ≡ true → IfSome self.new.file S.Journal.is_on_disk }
@@ -70,7 +71,7 @@ impl<'k, S: JournalStore> JournalWriter<'k, S> {
         };
     }
 
-    /// Makes the journal, and has it take what is said.
+    /// Creates the journal, and writes a record to it.
     fn make(&mut self, fleet: &Fleet, said: JournalRecord<'_>)
         ensures { Makes S.Journal.contents (λ file. S.is_new file self.old.name.now) (entry_text fleet.now (entry_said said.entry)) self.new.file self.new.is_whole }
     {
@@ -84,7 +85,7 @@ impl<'k, S: JournalStore> JournalWriter<'k, S> {
     }
 }
 
-/// How many plays a head tells.
+/// Returns how many plays a head states.
 pub(crate) fn told_plays(plays: usize) -> u16
     ensures { result ≡ min plays most_plays }
 {

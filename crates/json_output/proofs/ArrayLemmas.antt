@@ -11,7 +11,7 @@ use Rattle.fleet_index.proofs.RisingLemmas.{numbers_where_more}
 use Rattle.recap.specs.RecapText.{text_by_place}
 use Rattle.json_output.specs.Arrays.{added, comma_if, entries_text}
 
--- one entry more
+-- one more entry
 module _ {X : Type 0} (piece : ℕ → X → List ℕ) where
   pushed_from : (place : ℕ) (entries : List X) (entry : X) → text_by_place piece place (entries ++ entry ∷ []) ≡ text_by_place piece place entries ++ piece (place + length entries) entry
   pushed_from place [] entry = append-nil (piece place entry) ∙ ap (λ n. piece n entry) (omega arith)
@@ -36,7 +36,7 @@ module _ {X : Type 0} (piece : ℕ → X → List ℕ) where
       let more : take (i + 1) entries ≡ take i entries ++ entry ∷ [] = take_more entries i none within ∙ ap (λ e. take i entries ++ e ∷ []) (sym is) in
       sym (ap (text_by_place piece 0) more ∙ pushed (take i entries) entry ∙ ap (λ n. text_by_place piece 0 (take i entries) ++ piece n entry) long)
 
-  -- entries that are made of the items of a list, one item more
+  -- entries made of the items of a list, with one more item
   pub mapped_more : {Y : Type 0} (entry_of : Y → X) (items : List Y) (i : ℕ) (none item : Y) → i < length items → item ≡ get_or items i none
       → text_by_place piece 0 (map entry_of (take i items)) ++ piece i (entry_of item) ≡ text_by_place piece 0 (map entry_of (take (i + 1) items))
   mapped_more {Y} entry_of items i none item within is =
@@ -45,13 +45,13 @@ module _ {X : Type 0} (piece : ℕ → X → List ℕ) where
       ap (map entry_of) (take_more items i none within ∙ ap (λ (y : Y). take i items ++ y ∷ []) (sym is)) ∙ map-append entry_of (take i items) (item ∷ []) in
       sym (ap (text_by_place piece 0) more ∙ pushed (map entry_of (take i items)) (entry_of item) ∙ ap (λ n. text_by_place piece 0 (map entry_of (take i items)) ++ piece n (entry_of item)) long)
 
--- an entry more, if there is one
+-- one more entry, if there is one
 module _ {X : Type 0} (entry_text : X → List ℕ) where
   pub added_text : (entries : List X) (entry : Option X) → entries_text (λ place e. entry_text e) (entries ++ option_to_list entry) ≡ entries_text (λ place e. entry_text e) entries ++ added entry_text (length entries) entry
   added_text entries None = ap (entries_text (λ place e. entry_text e)) (append-nil entries) ∙ sym (append-nil (entries_text (λ place e. entry_text e) entries))
   added_text entries (Some entry) = pushed (λ place e. comma_if (nat_lt 0 place) ++ entry_text e) entries entry
 
--- what stands in a list by its numbers, one number more
+-- a list indexed by numbers, with one more number
 module _ {X : Type 0} (at : ℕ → Option X) where
   pub found_more : (count : ℕ) → filter_map at (range_with_len 0 (count + 1)) ≡ filter_map at (range_with_len 0 count) ++ option_to_list (at count)
   found_more count =
@@ -82,7 +82,7 @@ pub one_at_most : (b : Bool) → cond b 1 0 ≤ 1
 one_at_most true = omega arith
 one_at_most false = omega arith
 
--- entries that are made of the items of a list
+-- entries made of the items of a list
 pub text_mapped : {X Y : Type 0} (piece : ℕ → X → List ℕ) (entry_of : Y → X) (place : ℕ) (items : List Y)
     → text_by_place piece place (map entry_of items) ≡ text_by_place (λ at item. piece at (entry_of item)) place items
 text_mapped piece entry_of place [] = refl

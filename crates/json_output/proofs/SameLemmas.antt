@@ -1,4 +1,4 @@
--- The same facts are written alike.
+-- The same facts give the same output.
 use Rattle.std.proofs.Common.{◌≡◌, ℕ, zero, suc, ◌+◌, ◌<◌, Bool, true, false, cond, nat_lt, Option, List, [], ◌∷◌, ◌++◌, codes, length, refl, sym, ap, ap₂, ◌∙◌, subst, arith}
 use Rattle.fleet_index.specs.NumberLists.{list_at, numbers_where}
 use Rattle.fleet_index.proofs.RisingLemmas.{numbers_where_more}
@@ -66,7 +66,7 @@ pub same_boundaries : (fleet : FleetView) (opened also : ℕ) (boundaries others
 same_boundaries fleet opened also boundaries others same many =
     ap (λ (text : List ℕ). codes "[" ++ (text ++ codes "]")) (same_entries fleet opened 0 boundaries others same) ∙ ap (λ (n : ℕ). boundaries_json fleet n others) many
 
--- what is written of the hosts that pass a test, where that is the same of each
+-- the output for the hosts that pass a test, if it is the same for each
 each_where : (f g : ℕ → ℕ → List ℕ) (test : ℕ → Bool) (n : ℕ) → ((place host : ℕ) → host < n → f place host ≡ g place host) → text_by_place f 0 (numbers_where test n) ≡ text_by_place g 0 (numbers_where test n)
 each_where f g test zero same = refl
 each_where f g test (suc n) same =

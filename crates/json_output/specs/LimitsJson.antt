@@ -1,4 +1,4 @@
--- The limits of groups as a JSON text.
+-- The limits of groups as JSON.
 use Rattle.std.specs.Prelude.{ℕ, List, ◌++◌, codes, length}
 use Rattle.domains.specs.FleetViews.{FleetView, down_at_start}
 use Rattle.recap.specs.LimitsTable.{lines_with}
@@ -17,6 +17,6 @@ limits_json lines hosts =
     codes "{\"limits\":" ++ (array_text (λ place line. limit_json line) lines
     ++ (field_text (codes ",\"hosts\":") hosts ++ (field_text (codes ",\"limited\":") (length lines) ++ codes "}\n")))
 
--- what limits a fleet as a run begins
+-- the limits of a fleet at the start of a run
 abbrev pub fleet_json : FleetView → List ℕ
 fleet_json fleet = limits_json (lines_with fleet (down_at_start fleet) (length fleet.groups)) (length fleet.hosts)

@@ -1,4 +1,4 @@
--- A plan as a JSON text.
+-- A plan as JSON.
 use Rattle.std.specs.Prelude.{ℕ, List, ◌++◌, codes, length}
 use Rattle.domains.specs.FleetViews.{FleetView}
 use Rattle.domains.specs.Numbered.{host_at}
@@ -10,7 +10,7 @@ use Rattle.play_forecast.specs.Courses.{batches_of}
 use Rattle.recap.specs.LimitsText.{field_text}
 use Rattle.json_output.specs.Arrays.{array_text, quoted}
 
--- the names of hosts; a number that no host has is given an empty name
+-- the names of hosts; a number that no host has gives an empty name
 abbrev pub names_json : FleetView → List ℕ → List ℕ
 names_json fleet hosts = array_text (λ place host. quoted (host_at fleet.hosts host)) hosts
 

@@ -1,4 +1,4 @@
--- What came of plays as JSON texts.
+-- The results of plays as JSON.
 use Rattle.std.specs.Prelude.{ℕ, ◌+◌, ◌-◌, Bool, true, false, nat_lt, Option, None, Some, List, [], ◌++◌, codes, length, if◌then◌else◌}
 use Rattle.fleet_index.specs.NumberLists.{numbers_where}
 use Rattle.domains.specs.FleetViews.{FleetView}
@@ -20,7 +20,8 @@ use Rattle.recap.specs.declared.parts.Recap.{Recap}
 use Rattle.json_output.specs.Arrays.{array_text, comma_if, quoted}
 use Rattle.json_output.specs.PlanJson.{answer_json, names_json}
 
--- what a recap tells of a play's run: its boundaries, of which so many opened a batch, the statuses at the end, how the rows of each host are judged, and the end
+-- what a recap shows of a play's run: its boundaries, the first `opened` of which opened a batch; the statuses at the end; how the rows of
+-- each host are judged; and the end
 pub record PlayFacts : Type 0 where
   pub boundaries : List Boundary
   pub opened : ℕ
@@ -43,7 +44,7 @@ boundary_json fleet boundary opened =
     codes "{\"answer\":" ++ (answer_json fleet boundary.answer ++ (codes ",\"held\":" ++ (names_json fleet (host_numbers boundary.held.items)
     ++ (codes ",\"open\":" ++ (open_json fleet boundary.answer opened ++ codes "}")))))
 
--- the boundaries, of which so many opened a batch
+-- the boundaries, the first `opened` of which opened a batch
 abbrev pub boundaries_json : FleetView → ℕ → List Boundary → List ℕ
 boundaries_json fleet opened boundaries = array_text (λ place boundary. boundary_json fleet boundary (nat_lt place opened)) boundaries
 
@@ -59,7 +60,7 @@ abbrev pub host_json : List ℕ → Counts → Status → List ℕ
 host_json name counts state =
     codes "{\"host\":" ++ (quoted name ++ (counts_json counts ++ (codes ",\"state\":" ++ (quoted (state_word state) ++ codes "}"))))
 
--- the host has a part in the play
+-- the host takes part in the play
 abbrev pub is_told : Status → Bool
 is_told status.Idle = false
 is_told status.Waiting = true
@@ -70,12 +71,12 @@ is_told status.Halted = true
 is_told status.Off = true
 is_told status.Held = true
 
--- what a host has in the array behind so many, where it has a part in the play
+-- what the array gains for a host after this many, if it takes part in the play
 abbrev pub entry_of : FleetView → ℕ → ℕ → Status → Counts → List ℕ
 entry_of fleet before host state counts =
     if is_told state then comma_if (nat_lt 0 before) ++ host_json (host_at fleet.hosts host) counts state else []
 
--- the hosts that have a part in the play, by name
+-- the hosts that take part in the play, by name
 abbrev pub hosts_json : FleetView → List Status → List Counts → List ℕ
 hosts_json fleet statuses counts =
     array_text (λ place host. host_json (host_at fleet.hosts host) (counts_at counts host) (status_at statuses host))
@@ -99,7 +100,7 @@ ended_json fleet (ending.Blocked group) = blocked_end_json (host_at fleet.groups
 ended_json fleet (ending.TooManyFailed step failed size) = too_many_json step failed size
 ended_json fleet ending.AllFailed = codes "{\"kind\":\"all-failed\"}"
 
--- a run without an end was broken off by a fault
+-- a run without an end was interrupted
 abbrev pub end_json : FleetView → Option End → List ℕ
 end_json fleet (Some end) = ended_json fleet end
 end_json fleet None = codes "{\"kind\":\"fault\"}"
@@ -110,18 +111,18 @@ play_json fleet number facts =
     field_text (codes "{\"play\":") number ++ (codes ",\"boundaries\":" ++ (boundaries_json fleet facts.opened facts.boundaries
     ++ (codes ",\"hosts\":" ++ (hosts_json fleet facts.statuses facts.counts ++ (codes ",\"end\":" ++ (end_json fleet facts.end ++ codes "}"))))))
 
--- `{"plays":[..]}`: the plays that were begun of a file's behind so many, each with the number that it has in the file, from 1
+-- `{"plays":[..]}`: the plays of a file that were started, after this many; each with its number in the file, from 1
 abbrev pub recap_json : ℕ → FleetView → List PlayFacts → List ℕ
 recap_json before fleet plays =
     codes "{\"plays\":" ++ (array_text (λ place facts. play_json fleet (before + place + 1) facts) plays ++ codes "}\n")
 
--- `{"play":N,"boundaries":[..],"end":E}`: each boundary but the last opened a batch
+-- `{"play":N,"boundaries":[..],"end":E}`: each boundary except the last opened a batch
 abbrev pub course_json : FleetView → ℕ → Course → List ℕ
 course_json fleet number course =
     field_text (codes "{\"play\":") number ++ (codes ",\"boundaries\":" ++ (boundaries_json fleet (length course.boundaries - 1) course.boundaries
     ++ (codes ",\"end\":" ++ (ended_json fleet course.end ++ codes "}"))))
 
--- `{"plays":[..],"batches":N}`: the courses of the plays of a file, each with the number of its play, from 1
+-- `{"plays":[..],"batches":N}`: the forecasts of the plays of a file, each with the number of its play, from 1
 abbrev pub courses_json : FleetView → List Course → ℕ → List ℕ
 courses_json fleet courses batches =
     codes "{\"plays\":" ++ (array_text (λ place course. course_json fleet (place + 1) course) courses ++ (field_text (codes ",\"batches\":") batches ++ codes "}\n"))

@@ -2,7 +2,7 @@
 use Rattle.std.specs.Prelude.{ℕ, ◌==◌, ◌||◌, List, [], ◌∷◌, ◌++◌, codes, flat_map, if◌then◌else◌}
 use Rattle.recap.specs.Printable.{printed}
 
--- a quote and a backslash have a backslash before them
+-- a backslash precedes a quote and a backslash
 abbrev pub escaped : ℕ → List ℕ
 escaped byte = if byte == 34 || byte == 92 then 92 ∷ byte ∷ [] else byte ∷ []
 

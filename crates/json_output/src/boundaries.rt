@@ -13,7 +13,7 @@ use domains::Fleet;
 use play_forecast::Boundary;
 use std::io::Write;
 
-/// Writes the names of the batch that was opened, where one was.
+/// Writes the names of the batch that was opened, if one was.
 fn write_open<W: Write>(
     text: &mut TextWriter<'_, W>,
     fleet: &Fleet,
@@ -74,7 +74,7 @@ fn write_each_boundary<W: Write>(
     }
 }
 
-/// Writes the boundaries, of which the first ones opened a batch.
+/// Writes the boundaries, the first `opened` of which opened a batch.
 #[tactic(auto, using(bounded_io::proofs::Pieces::pieces_of_text))]
 pub(crate) fn write_boundaries<W: Write>(
     text: &mut TextWriter<'_, W>,

@@ -44,7 +44,7 @@ pub fn write_ended<W: Write>(text: &mut TextWriter<'_, W>, fleet: &Fleet, end: E
     }
 }
 
-/// Writes how a run ended; one without an end was broken off by a fault.
+/// Writes how a run ended; one without an end was interrupted.
 pub(crate) fn write_run_end<W: Write>(text: &mut TextWriter<'_, W>, fleet: &Fleet, end: Option<End>)
     ensures { Writes W.contents text.old text.new (end_json fleet.now end) }
 {

@@ -1,6 +1,6 @@
-//! How a text is to be laid out.
+//! The form of the output.
 
-/// How a text is to be laid out: in lines for people, or as one JSON object.
+/// The form of the output: lines for people, or one JSON object.
 #[derive(Clone, Copy, Debug, PartialEq, Eq)]
 pub enum Form {
     Plain,

@@ -1,4 +1,4 @@
-//! The hosts that have a part in a play.
+//! The hosts that take part in a play.
 ghost use Rattle.std.specs.Prelude.{◌≡◌, ◌<◌, ◌++◌, if◌then◌else◌, length, nat_lt};
 ghost use Rattle.bounded_io.specs.Writing.{Writes};
 ghost use Rattle.domains.specs.Numbered.{host_at};
@@ -41,7 +41,7 @@ fn write_host<W: Write>(text: &mut TextWriter<'_, W>, name: &str, counts: Counts
     text.write_str("}");
 }
 
-/// The status of a host; idle past the end of the list.
+/// Returns the status of a host; idle past the end of the list.
 pub(crate) fn status_of(statuses: &[Status], host: usize) -> Status
     ensures { result ≡ status_at statuses.now host }
 {
@@ -51,7 +51,7 @@ pub(crate) fn status_of(statuses: &[Status], host: usize) -> Status
     }
 }
 
-/// How the rows of a host are judged; it has none past the end of the list.
+/// Returns how the rows of a host are judged; it has none past the end of the list.
 fn counts_of(counts: &[Counts], host: usize) -> Counts
     ensures { result ≡ counts_at counts.now host }
 {
@@ -61,7 +61,7 @@ fn counts_of(counts: &[Counts], host: usize) -> Counts
     }
 }
 
-/// Whether the host has a part in the play.
+/// Reports whether the host takes part in the play.
 pub(crate) fn is_told(status: Status) -> bool
     ensures { result ≡ spec.is_told status }
 {
@@ -71,7 +71,7 @@ pub(crate) fn is_told(status: Status) -> bool
     }
 }
 
-/// Writes the entry of a host behind so many, where it has a part in the play, and says how many entries that were.
+/// Writes the entry of a host after `told` entries, if it takes part in the play, and returns how many entries it wrote.
 #[tactic(auto, using(bounded_io::proofs::Pieces::pieces_of_text))]
 fn write_entry<W: Write>(
     text: &mut TextWriter<'_, W>,
@@ -110,7 +110,7 @@ fn write_each_host<W: Write>(
     }
 }
 
-/// Writes the hosts that have a part in the play, by name.
+/// Writes the hosts that take part in the play, by name.
 #[tactic(auto, using(bounded_io::proofs::Pieces::pieces_of_text))]
 pub(crate) fn write_hosts<W: Write>(
     text: &mut TextWriter<'_, W>,

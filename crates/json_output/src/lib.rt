@@ -1,4 +1,4 @@
-//! What commands tell, as JSON texts: the limits of groups, a plan, what came of plays, and the parts of which other texts are made.
+//! What commands print, as JSON: the limits of groups, a plan, the results of plays, and the parts of other JSON output.
 #![tactic(auto)]
 
 mod arrays;

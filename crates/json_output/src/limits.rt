@@ -33,7 +33,7 @@ fn write_limit<W: Write>(
     text.write_str("}");
 }
 
-/// Writes the entry of a group behind so many.
+/// Writes the entry of a group after `limited` entries.
 #[tactic(auto, using(bounded_io::proofs::Pieces::pieces_of_text))]
 fn write_entry<W: Write>(
     text: &mut TextWriter<'_, W>,
@@ -49,7 +49,7 @@ fn write_entry<W: Write>(
     write_limit(text, group, members, down, limit);
 }
 
-/// Writes the entry of a group behind so many, where it has a limit, and says how many entries that were.
+/// Writes the entry of a group after `limited` entries, if it has a limit, and returns how many entries it wrote.
 #[tactic(auto, using(bounded_io::proofs::Pieces::pieces_of_text))]
 fn write_group<W: Write>(
     text: &mut TextWriter<'_, W>,
@@ -77,7 +77,7 @@ fn write_group<W: Write>(
     1
 }
 
-/// Writes the entries of the groups that have a limit, and says how many they are.
+/// Writes the entries of the groups that have a limit, and returns their number.
 fn write_groups<W: Write>(text: &mut TextWriter<'_, W>, fleet: &Fleet) -> u64
     ensures writes { Writes W.contents text.old text.new (entries_text (λ place line. limit_json line) (lines_with fleet.now (down_at_start fleet.now) (length fleet.now.groups))) }
     ensures limited { result ≡ length (lines_with fleet.now (down_at_start fleet.now) (length fleet.now.groups)) }
@@ -89,7 +89,7 @@ fn write_groups<W: Write>(text: &mut TextWriter<'_, W>, fleet: &Fleet) -> u64
     limited
 }
 
-/// Writes the groups that have a limit, and says how many they are.
+/// Writes the groups that have a limit, and returns their number.
 #[tactic(auto, using(bounded_io::proofs::Pieces::pieces_of_text))]
 fn write_array<W: Write>(text: &mut TextWriter<'_, W>, fleet: &Fleet) -> u64
     ensures writes { Writes W.contents text.old text.new (array_text (λ place line. limit_json line) (lines_with fleet.now (down_at_start fleet.now) (length fleet.now.groups))) }
@@ -112,8 +112,8 @@ fn write_object<W: Write>(text: &mut TextWriter<'_, W>, fleet: &Fleet)
     text.write_str("}\n");
 }
 
-/// Writes the limits of the fleet as a run begins. It takes no memory; where a write fails, exactly the first bytes of the text
-/// went out, as many as the fault says.
+/// Writes the limits of the fleet at the start of a run. Does not allocate. If a write fails, exactly the first bytes were written; the
+/// error states how many.
 pub fn write_limits_json<W: Write>(fleet: &Fleet, out: &mut W) -> Result<(), WriteFault>
     ensures { SendsText (W.contents out.old) (W.contents out.new) (fleet_json fleet.now) result }
 {

@@ -89,7 +89,7 @@ pub fn write_answer<W: Write>(text: &mut TextWriter<'_, W>, fleet: &Fleet, answe
     }
 }
 
-/// Writes the names of a batch behind so many.
+/// Writes the names of the batch at this index.
 #[tactic(auto, using(bounded_io::proofs::Pieces::pieces_of_text))]
 pub fn write_batch<W: Write>(
     text: &mut TextWriter<'_, W>,
@@ -111,7 +111,7 @@ fn write_each_batch<W: Write>(text: &mut TextWriter<'_, W>, fleet: &Fleet, batch
     }
 }
 
-/// Writes the entries of the batches, where there is a plan.
+/// Writes the entries of the batches, if there is a plan.
 #[tactic(auto, using(bounded_io::proofs::Pieces::pieces_of_text))]
 fn write_answer_batches<W: Write>(text: &mut TextWriter<'_, W>, fleet: &Fleet, answer: &Answer)
     ensures { Writes W.contents text.old text.new (entries_text (λ place hosts. names_json fleet.now hosts) (batches_of answer.now)) }
@@ -121,7 +121,7 @@ fn write_answer_batches<W: Write>(text: &mut TextWriter<'_, W>, fleet: &Fleet, a
     }
 }
 
-/// Writes the names of each batch, where there is a plan.
+/// Writes the names of each batch, if there is a plan.
 #[tactic(auto, using(bounded_io::proofs::Pieces::pieces_of_text))]
 pub fn write_batches<W: Write>(text: &mut TextWriter<'_, W>, fleet: &Fleet, answer: &Answer)
     ensures { Writes W.contents text.old text.new (batches_json fleet.now (batches_of answer.now)) }
@@ -149,9 +149,8 @@ fn write_object<W: Write>(
     text.write_str("}\n");
 }
 
-/// Writes a plan, or the group that blocks it, and the hosts that were set aside before it was made. A number that no host or group
-/// of the fleet has is given an empty name. It takes no memory; where a write fails, exactly the first bytes of the text went out, as
-/// many as the fault says.
+/// Writes a plan, or the group that blocks it, and the hosts that were held before it was made. A number that no host or group of the fleet
+/// has gives an empty name. Does not allocate. If a write fails, exactly the first bytes were written; the error states how many.
 pub fn write_plan_json<W: Write>(
     fleet: &Fleet,
     answer: &Answer,

@@ -1,4 +1,4 @@
-//! What came of plays.
+//! The results of plays.
 ghost use Rattle.std.specs.Prelude.{◌≡◌};
 ghost use Rattle.bounded_io.specs.Writing.{Writes};
 ghost use Rattle.json_output.specs.PlayJson.{boundaries_json, course_json, facts_of, play_json};
@@ -12,8 +12,8 @@ use play_forecast::{Boundary, End};
 use recap::{Recap, write_field};
 use std::io::Write;
 
-/// Goes on with the recap of a play, with its number in the file, which counts from 1. A number that no host or group of the fleet has is given
-/// an empty name. It takes no memory.
+/// Appends the recap of a play with its number in the file, counted from 1. A number that no host or group of the fleet has gives an empty
+/// name. Does not allocate.
 #[tactic(auto, using(bounded_io::proofs::Pieces::pieces_of_text))]
 pub fn write_play_json<W: Write>(
     text: &mut TextWriter<'_, W>,
@@ -33,7 +33,8 @@ pub fn write_play_json<W: Write>(
     text.write_str("}");
 }
 
-/// Goes on with the course of a play, with its number in the file, which counts from 1: each boundary but the last opened a batch. It takes no memory.
+/// Appends the forecast of a play with its number in the file, counted from 1. Each boundary except the last opened a batch. Does not
+/// allocate.
 #[tactic(auto, using(bounded_io::proofs::Pieces::pieces_of_text))]
 pub fn write_course_json<W: Write>(
     text: &mut TextWriter<'_, W>,

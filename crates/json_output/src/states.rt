@@ -1,4 +1,4 @@
-//! The states of the hosts that have a part in a play.
+//! The states of the hosts that take part in a play.
 ghost use Rattle.std.specs.Prelude.{◌≡◌, if◌then◌else◌, length};
 ghost use Rattle.bounded_io.specs.Writing.{Writes};
 ghost use Rattle.domains.specs.Numbered.{host_at};
@@ -28,7 +28,7 @@ fn write_state<W: Write>(text: &mut TextWriter<'_, W>, name: &str, status: Statu
     text.write_str("}");
 }
 
-/// Writes the entry of a host behind so many, where it has a part in the play, and says how many entries that were.
+/// Writes the entry of a host after `told` entries, if it takes part in the play, and returns how many entries it wrote.
 #[tactic(auto, using(bounded_io::proofs::Pieces::pieces_of_text))]
 fn write_entry<W: Write>(
     text: &mut TextWriter<'_, W>,
@@ -60,7 +60,7 @@ fn write_each_state<W: Write>(text: &mut TextWriter<'_, W>, fleet: &Fleet, statu
     }
 }
 
-/// Writes the hosts that have a part in the play, by name, with their states.
+/// Writes the hosts that take part in the play, by name, with their states.
 #[tactic(auto, using(bounded_io::proofs::Pieces::pieces_of_text))]
 pub fn write_states<W: Write>(text: &mut TextWriter<'_, W>, fleet: &Fleet, statuses: &[Status])
     ensures { Writes W.contents text.old text.new (states_json fleet.now statuses.now) }

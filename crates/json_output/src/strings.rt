@@ -7,7 +7,7 @@ ghost use Rattle.recap.specs.Printable.{printable, printed};
 use bounded_io::TextWriter;
 use std::io::Write;
 
-/// Writes the bytes as one line shows them, as a string.
+/// Writes the bytes as a string, as one line shows them.
 #[tactic(auto, using(bounded_io::proofs::Pieces::pieces_of_text))]
 pub fn write_string<W: Write>(text: &mut TextWriter<'_, W>, bytes: &[u8])
     ensures { Writes W.contents text.old text.new (string_json bytes.now) }
@@ -37,7 +37,7 @@ fn write_byte<W: Write>(text: &mut TextWriter<'_, W>, byte: u8)
     write_printable_byte(text, as_printable(byte));
 }
 
-/// A byte that is no printable ASCII is a question mark, as in a line.
+/// Returns a question mark for a byte that is not printable ASCII, as in a line.
 fn as_printable(byte: u8) -> u8
     ensures { result ≡ printable byte }
 {

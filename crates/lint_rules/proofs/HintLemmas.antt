@@ -24,7 +24,7 @@ some_told kind tells notes some is = is ∙ sym (list_any-map (λ note. is_of ki
 pub any_told : (tells : Note → Bool) (notes : List code.Note) (some : Bool) → some ≡ list_any (λ note. tells (seen note)) notes → some ≡ list_any tells (map seen notes)
 any_told tells notes some is = is ∙ sym (list_any-map tells seen notes)
 
--- what was made printable is so
+-- a byte that was made printable is printable
 prints : (byte : ℕ) (b : Bool) → (nat_le 32 byte && nat_le byte 126) ≡ b → printable (cond b byte 63) ≡ cond b byte 63
 prints byte true e = ap (λ b. cond b byte 63) e
 prints byte false e = refl
@@ -50,7 +50,7 @@ module _ {W : Type 0} (contents : W → Option (List ℕ)) where
         writes = subst (λ n. Writes contents t0 t1 (codes "  " ++ (n ++ (codes ": " ++ (printed (take 140 bytes) ++ codes "\n"))))) is writes;
       }
 
-  -- the lines of no kind, and of one
+  -- the lines of no rule, and of one
   pub no_hints : (text : TextWriter W) → WritesSuch contents text text (AreHintLines [])
   no_hints text = record { text = []; is = refl; writes = writes_none contents text }
 
@@ -61,7 +61,7 @@ module _ {W : Type 0} (contents : W → Option (List ℕ)) where
     writes = writes_two contents t0 t1 t1 one.text [] (one.text ++ []) one.writes (writes_none contents t1) refl;
   }
 
-  -- those of some kinds, and of others after them
+  -- those of some rules, and of others after them
   lines_then : (first more : List LintRule) (a b : List ℕ) → AreHintLines first a → AreHintLines more b → AreHintLines (first ++ more) (a ++ b)
   lines_then [] more a b is others = subst (λ l. AreHintLines more (l ++ b)) (sym is) others
   lines_then (kind ∷ first) more a b is others = record {

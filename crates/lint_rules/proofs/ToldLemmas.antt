@@ -1,4 +1,4 @@
--- Notes that are printed, one after the other.
+-- Notes that are printed, in sequence.
 use Rattle.std.proofs.Common.{◌≡◌, ℕ, ◌+◌, ◌<◌, Bool, List, [], ◌∷◌, ◌++◌, length}
 use Rattle.std.proofs.Common.{length-append, map, take, get_or, flat_map, Option, Ok, Err, refl, subst, sym, ap, ◌∙◌}
 use Rattle.std.proofs.lemmas.Grind.{take_at_read, flat_map-append}
@@ -41,7 +41,7 @@ count_told tells all place note none within read =
     ∙ ap length (filter-append is_warning before now)
     ∙ length-append (warnings before) (warnings now))
 
--- the parts of the whole text
+-- the parts of the complete text
 pub whole_text : {W : Type 0} (contents : W → Option (List ℕ)) (tells : Note → Bool) (notes : List Note) (count : ℕ) (t0 t1 t2 t3 t4 : TextWriter W)
     → Writes contents t0 t1 (flat_map note_line (told tells notes)) → count ≡ length (warnings (told tells notes)) → Writes contents t1 t2 (count_line count)
     → WritesSuch contents t2 t3 (AreHintLines (told_kinds tells notes)) → Writes contents t3 t4 (last_line tells notes) → WritesSuch contents t0 t4 (IsNotesText tells notes)
@@ -55,7 +55,7 @@ whole_text contents tells notes count t0 t1 t2 t3 t4 lines is counted hints last
       writes = writes_four contents t0 t1 t2 t3 t4 body number hints.text end _ lines (subst (λ n. Writes contents t1 t2 (count_line n)) is counted) hints.writes last refl;
     }
 
--- a writer that was given such a text ended
+-- a writer that was given such a text has finished
 module _ {W T : Type 0} (contents : W → Option (List ℕ)) (out : MutBor W) (first last : TextWriter W) (new : Option (List ℕ)) (Is : List ℕ → Type 0)
     (begins : Begins out first) (given : WritesSuch contents first last Is) where
   pub sent_whole : (end : T) → Finishes contents last new (Ok tt) → SendsSuch {T = T} (contents out.now) new Is (Ok end)

@@ -1,4 +1,4 @@
--- What to do about the kinds of notes.
+-- The hints of the rules.
 use Rattle.std.specs.Prelude.{◌≡◌, ℕ, ◌≤◌, Bool, ◌&&◌, List, [], ◌∷◌, ◌++◌, codes, filter, length}
 use Rattle.std.specs.List.{list_any}
 use Rattle.std.specs.Str.{bytes_eq}
@@ -26,7 +26,7 @@ pub record IsFirstLine (IsLine IsRest : List ℕ → Type 0) (text : List ℕ) :
   pub rest_is : IsRest rest
   pub text_is : text ≡ line ++ rest
 
--- a line for each of the kinds, in their order
+-- a line for each of the rules, in order
 abbrev pub AreHintLines : List LintRule → List ℕ → Type 0
 AreHintLines [] text = text ≡ []
 AreHintLines (kind ∷ kinds) text = IsFirstLine (IsHintLine kind) (AreHintLines kinds) text
@@ -34,10 +34,10 @@ AreHintLines (kind ∷ kinds) text = IsFirstLine (IsHintLine kind) (AreHintLines
 abbrev pub is_of : LintRule → Note → Bool
 is_of kind note = bytes_eq (kind_name (kind_of note)) (kind_name kind)
 
--- a note of the kind is printed
+-- a warning of the rule is printed
 abbrev pub has_told : (Note → Bool) → List Note → LintRule → Bool
 has_told tells notes kind = list_any (λ note. is_of kind note && tells note) notes
 
--- the kinds of the notes that are printed
+-- the rules of the warnings that are printed
 abbrev pub told_kinds : (Note → Bool) → List Note → List LintRule
 told_kinds tells notes = filter (has_told tells notes) all_kinds

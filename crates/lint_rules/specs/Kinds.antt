@@ -1,4 +1,4 @@
--- The kinds of notes, their severity, and which of them are suppressed.
+-- The lint rules, their severity, and which of them are suppressed.
 use Rattle.std.specs.Prelude.{ℕ, Bool, List, [], ◌∷◌, codes}
 use Rattle.std.specs.List.{list_all, list_any}
 use Rattle.group_tree.specs.Names.{Name, is_among, same_name}
@@ -8,7 +8,7 @@ use Rattle.lint_rules.specs.declared.lint_rule.LintRule.TheVariants.{RepeatedKey
 use Rattle.lint_rules.specs.declared.rows.Severity.{Severity}
 use Rattle.lint_rules.specs.declared.rows.Severity.TheVariants.{Info, Warning}
 
--- the word with which the line of such a note starts, and by which it is suppressed
+-- the word with which the line of such a warning starts, and by which it is suppressed
 abbrev pub kind_name : LintRule → Name
 kind_name RepeatedKey = codes "repeated-key"
 kind_name NearKey = codes "near-key"
@@ -41,15 +41,15 @@ severity kind = Warning
 abbrev pub all_kinds : List LintRule
 all_kinds = RepeatedKey ∷ NearKey ∷ GroupDown ∷ ZeroLimit ∷ EmptyLimit ∷ LooseLimit ∷ UnfilledPlaceholder ∷ NoHosts ∷ UnlimitedHosts ∷ LocalCommand ∷ UndefinedName ∷ UnknownGroup ∷ ConstantTest ∷ IdleStep ∷ IdleHandler ∷ ChangedGuard ∷ ShellWord ∷ DashName ∷ DownHosts ∷ OneFailure ∷ []
 
--- a kind has this name
+-- a rule has this name
 abbrev pub is_kind_name : Name → Bool
 is_kind_name word = list_any (λ kind. same_name (kind_name kind) word) all_kinds
 
--- The text consists of names of kinds. They are separated as the parts of a pattern of hosts are: by a comma or a colon, with blanks around them or not; nothing
--- between two commas is no part.
+-- The text consists of names of rules. They are separated as the parts of a host pattern are: by a comma or a colon, with optional
+-- whitespace around it. Nothing between two commas is not a part.
 abbrev pub are_kind_names : List ℕ → Bool
 are_kind_names text = list_all is_kind_name (parts_of text)
 
--- the text has the kind's name
+-- the text contains the rule's name
 abbrev pub allows : List ℕ → LintRule → Bool
 allows text kind = is_among (kind_name kind) (parts_of text)

@@ -1,4 +1,4 @@
--- The text of notes.
+-- The text of warnings.
 use Rattle.std.specs.Prelude.{ℕ, Bool, true, false, Option, None, Some, List, [], ◌++◌, codes, decimal}
 use Rattle.group_tree.specs.Names.{Name}
 use Rattle.recap.specs.LimitsText.{field_text}
@@ -19,7 +19,7 @@ list_word false = codes "/tasks/"
 abbrev pub at_text : StepPath → List ℕ
 at_text at = field_text (codes " at=") at.play ++ (list_word at.is_handler ++ decimal at.place)
 
--- a word that ends in `=`, and a name, which stays on its line
+-- a word that ends in `=`, followed by a name, which stays on its line
 abbrev pub named_text : List ℕ → Name → List ℕ
 named_text word name = word ++ printed name
 
@@ -41,7 +41,7 @@ abbrev pub near_text : Option Name → List ℕ
 near_text None = []
 near_text (Some name) = named_text (codes " near=") name
 
--- what follows the name of its kind
+-- what follows the name of its rule
 abbrev pub details : Note → List ℕ
 details (repeated_key document path) = named_text (document_word document) path
 details (near_key group name) = named_text (codes " group=") group ++ named_text (codes " name=") name

@@ -1,4 +1,4 @@
--- What may be noted of an inventory and a playbook.
+-- The warnings about an inventory and a playbook.
 use Rattle.std.specs.Prelude.{ℕ, Bool, true, false, not, Option, None, Some, option_map, List, [], ◌∷◌, filter}
 use Rattle.group_tree.specs.Names.{Name}
 use Rattle.lint_rules.specs.declared.lint_rule.LintRule.{LintRule}
@@ -47,13 +47,14 @@ pub data Note : Type 0 where
   unknown_name : StepPath → Name → Option Name → Note
   -- a name that a step reads, how many of the waiting hosts don't have it, of how many, and the first that doesn't
   missing_name : StepPath → Name → ℕ → ℕ → Name → Note
-  -- a name that a step reads and that an earlier step registers, on how many of the waiting hosts nothing of it may be there, of how many, and the first of them
+  -- a name that a step reads and that an earlier step registers, on how many of the waiting hosts its result may not exist, of how many,
+  -- and the first of them
   missing_result : StepPath → Name → ℕ → ℕ → Name → Note
   -- a step with a condition under this key that tests for this group, which doesn't exist
   unknown_group : StepPath → Name → Name → Note
   -- a step with a condition under this key that compares the host's name with this one, which no host has
   unknown_host : StepPath → Name → Name → Note
-  -- a step with a condition under this key that asks of the field of this result what comes out the same whatever happens
+  -- a step with a condition under this key that tests the field of this result in a way that is the same whatever happens
   constant_test : StepPath → Name → Name → Note
   -- a step whose condition holds on no waiting host
   idle_step : StepPath → Note
@@ -63,11 +64,11 @@ pub data Note : Type 0 where
   changed_guard : StepPath → Name → Note
   -- an argument that means something only to a shell
   shell_word : StepPath → Name → Note
-  -- a step that runs a program whose name has a blank
+  -- a step that runs a program whose name has whitespace
   blank_program : StepPath → Name → Note
-  -- a step that gives `ssh` this script as one argument, which is several at the remote host
+  -- a step that passes `ssh` this script as one argument, which is several on the remote host
   lost_quotes : StepPath → Name → Note
-  -- a waiting host whose name a program that the step runs takes for an option
+  -- a waiting host whose name a program that the step runs might take for an option
   dash_name : StepPath → Name → Note
   -- a play that names this many hosts which are down at the start, and the first of them
   down_hosts : ℕ → ℕ → Name → Note
@@ -113,11 +114,11 @@ is_grave severities.Info = false
 abbrev pub is_warning : Note → Bool
 is_warning note = is_grave (severity (kind_of note))
 
--- the text doesn't suppress its kind
+-- the text doesn't suppress its rule
 abbrev pub isnt_allowed : List ℕ → Note → Bool
 isnt_allowed allowed note = not (allows allowed (kind_of note))
 
--- those of them that are printed
+-- those that are printed
 abbrev pub told : (Note → Bool) → List Note → List Note
 told = filter
 
@@ -125,12 +126,12 @@ told = filter
 abbrev pub warnings : List Note → List Note
 warnings = filter is_warning
 
--- the note, if there is one
+-- the warning, if there is one
 abbrev pub noted : Option Note → List Note
 noted None = []
 noted (Some note) = note ∷ []
 
--- a note as the program stores it
+-- a warning as the program stores it
 abbrev pub seen : code.Note → Note
 seen (notes.RepeatedKey document path) = repeated_key document path.now
 seen (notes.NearKey group name) = near_key group.now name.now

@@ -1,4 +1,4 @@
--- The whole text of notes.
+-- The complete text of the warnings.
 use Rattle.std.specs.Prelude.{◌≡◌, ℕ, Bool, if◌then◌else◌, Option, List, [], ◌∷◌, ◌++◌, Result, codes, flat_map, length}
 use Rattle.std.specs.List.{list_any}
 use Rattle.bounded_io.specs.Sending.{SendsText}
@@ -16,11 +16,11 @@ use Rattle.lint_rules.specs.declared.end.LintEnd.TheVariants.{Clean, Noted}
 abbrev pub count_line : ℕ → List ℕ
 count_line count = field_text (codes "notes=") count ++ codes "\n"
 
--- where to read on, if a note is printed
+-- where to read more, if a note is printed
 abbrev pub last_line : (Note → Bool) → List Note → List ℕ
 last_line tells notes = if list_any tells notes then codes "  `rollout explain KIND` has an example; `--allow KIND,..` suppresses a rule\n" else []
 
--- a line for each note that is printed, how many of them are warnings, a hint for each of their kinds, and where to read on
+-- a line for each note that is printed, how many of them are warnings, a hint for each of their rules, and where to read more
 pub record IsNotesText (tells : Note → Bool) (notes : List Note) (text : List ℕ) : Type 0 where
   pub hints : List ℕ
   pub are : AreHintLines (told_kinds tells notes) hints
@@ -40,7 +40,7 @@ pub record WritesSuch {W : Type 0} (contents : W → Option (List ℕ)) (old new
   pub is : Is text
   pub writes : Writes contents old new text
 
--- such a text went out, or broke off where the fault says
+-- such a text was written, or was interrupted where the error states
 pub record SendsSuch {T : Type 0} (old new : Option (List ℕ)) (Is : List ℕ → Type 0) (result : Result T WriteFault) : Type 0 where
   pub text : List ℕ
   pub is : Is text

@@ -1,4 +1,4 @@
-//! Kinds of notes that are suppressed.
+//! Rules that are suppressed.
 ghost use Rattle.std.specs.Prelude.{◌≡◌, false, true, MatchOption};
 ghost use Rattle.lint_rules.specs.Kinds as model;
 ghost use Rattle.lint_rules.specs.Kinds.{are_kind_names};
@@ -9,7 +9,7 @@ use crate::note::Note;
 use std::marker::Model;
 use text_syntax::first_part;
 
-/// The kinds that a text names. It is seen as that text.
+/// The rules that a string names. Contracts see that string.
 #[derive(Debug, Drop)]
 pub struct Allowed<'a> {
     text: &'a str,
@@ -23,7 +23,8 @@ impl<'a> Model for Allowed<'a> {
     ghost view = { λ allowed. allowed.text.now };
 }
 
-/// Reads comma-separated names of kinds, as the parts of a pattern of hosts; the empty text names none. Returns `None` if no kind has one of the names. It takes no memory.
+/// Reads comma-separated names of rules, with the syntax of a host pattern; the empty string names none. Returns `None` if one of the names
+/// is not a rule's. Does not allocate.
 pub fn read_allowed(text: &str) -> Option<Allowed<'_>>
     ensures { MatchOption result (are_kind_names text.now ≡ false) (λ allowed. (allowed ≡ text.now) × (are_kind_names text.now ≡ true)) }
 {
@@ -34,7 +35,7 @@ pub fn read_allowed(text: &str) -> Option<Allowed<'_>>
     }
 }
 
-/// Whether a kind has this name.
+/// Reports whether a rule has this name.
 fn is_kind_name(word: &str) -> bool
     ensures { result ≡ model.is_kind_name word.now }
 {
@@ -55,7 +56,7 @@ fn are_kinds(text: &str) -> bool
 }
 
 impl<'a> Allowed<'a> {
-    /// Whether notes of this kind are suppressed.
+    /// Reports whether warnings of this rule are suppressed.
     pub fn allows(&self, kind: LintRule) -> bool
         ensures { result ≡ model.allows self.now kind }
     {
@@ -70,7 +71,7 @@ impl<'a> Allowed<'a> {
         false
     }
 
-    /// Whether the note is printed.
+    /// Reports whether the warning is printed.
     pub(crate) fn tells(&self, note: &Note<'_>) -> bool
         ensures { result ≡ isnt_allowed self.now (seen note.now) }
     {

@@ -1,6 +1,6 @@
-//! The two texts that are looked at.
+//! The two files that are checked.
 
-/// Which of them a path leads through.
+/// The file that a path leads through.
 #[derive(Clone, Copy, Debug, PartialEq, Eq)]
 pub enum Document {
     Inventory,

@@ -1,4 +1,4 @@
-//! The hints of the kinds of which a note is printed.
+//! The hints of the rules of which a warning is printed.
 ghost use Rattle.std.specs.Prelude.{◌≡◌, ◌∷◌, ◌++◌, ◌&&◌, [], codes, filter, map, take};
 ghost use Rattle.std.specs.List.{list_any};
 ghost use Rattle.bounded_io.specs.Writing.{Writes};
@@ -35,7 +35,7 @@ fn write_line<W: Write>(text: &mut TextWriter<'_, W>, name: &str, hint: &str)
     text.write_str("\n");
 }
 
-/// Writes the line of the kind.
+/// Writes the line of the rule.
 fn write_hint<W: Write>(text: &mut TextWriter<'_, W>, kind: LintRule)
     ensures { WritesSuch W.contents text.old text.new (IsHintLine kind) }
 {
@@ -61,7 +61,7 @@ fn is_any_told(notes: &[Note<'_>], allowed: &Allowed<'_>, kind: LintRule) -> boo
     notes.iter().any(|note| is_told_of(note, allowed, kind))
 }
 
-/// Whether a note of the kind is printed.
+/// Reports whether a warning of the rule is printed.
 #[tactic(auto, using(crate::proofs::HintLemmas::some_told))]
 fn has_told(notes: &[Note<'_>], allowed: &Allowed<'_>, kind: LintRule) -> bool
     ensures { result ≡ model.has_told (isnt_allowed allowed.now) (map seen notes.now) kind }
@@ -69,7 +69,7 @@ fn has_told(notes: &[Note<'_>], allowed: &Allowed<'_>, kind: LintRule) -> bool
     is_any_told(notes, allowed, kind)
 }
 
-/// Writes the line of the kind, if a note of it is printed.
+/// Writes the line of the rule, if a warning of it is printed.
 #[tactic(auto, using(crate::proofs::HintLemmas::no_hints, crate::proofs::HintLemmas::one_hint))]
 fn write_hint_if<W: Write>(
     text: &mut TextWriter<'_, W>,
@@ -84,7 +84,7 @@ fn write_hint_if<W: Write>(
     }
 }
 
-/// Writes what to do about each kind of which a note is printed.
+/// Writes a hint for each rule of which a warning is printed.
 #[tactic(auto, using(crate::proofs::HintLemmas::no_hints))]
 pub(crate) fn write_hints<W: Write>(
     text: &mut TextWriter<'_, W>,

@@ -1,4 +1,4 @@
-//! What may be noted of an inventory and a playbook, the line of each note, and what to do about it.
+//! The rules for an inventory and a playbook, the line of each warning, and hints.
 #![tactic(auto)]
 
 mod allowed;

@@ -1,8 +1,8 @@
-//! The kinds of notes.
+//! The lint rules.
 ghost use Rattle.std.specs.Prelude.{◌≡◌};
 ghost use Rattle.lint_rules.specs.Kinds.{all_kinds};
 
-/// What a note is about.
+/// What a warning is about.
 #[derive(Clone, Copy, Debug, PartialEq, Eq)]
 pub enum LintRule {
     /// A key is repeated in one object.
@@ -70,7 +70,7 @@ const KINDS: &[LintRule] = &[
     LintRule::OneFailure,
 ];
 
-/// The kinds, in the order in which hints are printed.
+/// Returns the rules, in the order in which hints are printed.
 pub(crate) fn kinds() -> &'static [LintRule]
     ensures { result.now ≡ all_kinds }
 {

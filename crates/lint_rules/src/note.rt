@@ -1,4 +1,4 @@
-//! A note.
+//! A warning.
 ghost use Rattle.std.specs.Prelude.{◌≡◌};
 ghost use Rattle.lint_rules.specs.Notes.{kind_of, seen};
 
@@ -6,7 +6,7 @@ use crate::document::Document;
 use crate::lint_rule::LintRule;
 use crate::step_path::StepPath;
 
-/// A note on an inventory and a playbook, with names that these lend.
+/// A warning about an inventory and a playbook, with names borrowed from them.
 #[derive(Clone, Copy, Debug)]
 pub enum Note<'a> {
     RepeatedKey {
@@ -138,7 +138,7 @@ pub enum Note<'a> {
     },
 }
 
-/// How many of the waiting hosts don't have a name, or a limit, of how many, and the first of them.
+/// How many of the waiting hosts lack a name, or a limit, out of how many, and the first of them.
 #[derive(Clone, Copy, Debug)]
 pub struct Missing<'a> {
     pub hosts: usize,

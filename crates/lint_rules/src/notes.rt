@@ -1,4 +1,4 @@
-//! Notes, in the order in which they are told.
+//! Warnings, in the order in which they are printed.
 ghost use Rattle.std.specs.Prelude.{◌≡◌, ◌++◌, [], OnOk, map, option_map};
 ghost use Rattle.lint_rules.specs.Notes.{noted, seen};
 
@@ -6,7 +6,7 @@ use crate::note::Note;
 use std::alloc::{AllocError, Global};
 use std::marker::Model;
 
-/// They are gathered before anything is written, so that nothing goes out where memory is refused.
+/// They are collected before anything is written, so that nothing is written if an allocation fails.
 #[derive(Drop)]
 pub struct Notes<'a> {
     list: Vec<Note<'a>>,
@@ -36,7 +36,7 @@ impl<'a> Notes<'a> {
         self.list.as_slice()
     }
 
-    /// The note goes behind the others, where there is one.
+    /// Appends the warning, if there is one.
     pub fn add(&mut self, note: Option<Note<'a>>) -> Result<(), AllocError>
         ensures { OnOk result (self.new ≡ self.old ++ noted (option_map seen note.entry)) }
     {

@@ -1,17 +1,17 @@
-//! The table of kinds.
+//! The table of rules.
 ghost use Rattle.std.specs.Prelude.{◌≡◌};
 ghost use Rattle.lint_rules.specs.Kinds as model;
 
 use crate::lint_rule::LintRule;
 
-/// Whether `lint` exits with status 1 because of such a note.
+/// Whether such a warning makes `lint` exit with status 1.
 #[derive(Clone, Copy, Debug, PartialEq, Eq)]
 pub enum Severity {
     Warning,
     Info,
 }
 
-/// What belongs to a kind: the word with which its lines start, its severity, and what to do about it.
+/// What belongs to a rule: the word its lines start with, its severity, and its hint.
 #[derive(Clone, Copy, Debug)]
 pub struct Row {
     pub name: &'static str,
@@ -42,7 +42,7 @@ fn info(name: &'static str, hint: &'static str) -> Row
 }
 
 impl LintRule {
-    /// The row of the kind.
+    /// Returns the row of the rule.
     pub fn row(self) -> Row
         ensures name { result.name.now ≡ model.kind_name self }
         ensures severity { result.severity ≡ model.severity self }
@@ -131,7 +131,7 @@ impl LintRule {
         }
     }
 
-    /// The word with which the line of such a note starts.
+    /// Returns the word with which the line of such a warning starts.
     pub fn name(self) -> &'static str
         ensures { result.now ≡ model.kind_name self }
     {

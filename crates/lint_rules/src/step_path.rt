@@ -1,4 +1,4 @@
-//! Where a step stands in a playbook.
+//! The position of a step in a playbook.
 ghost use Rattle.std.specs.Prelude.{◌≡◌};
 ghost use Rattle.lint_rules.specs.Paths.{path_of};
 
@@ -20,7 +20,7 @@ pub struct StepPath {
 }
 
 impl StepPath {
-    /// The path of the step at this place among the tasks and then the handlers.
+    /// Returns the path of the step at this index; handlers follow the tasks.
     pub fn of(numbered: Numbered<'_>, place: usize) -> StepPath
         ensures { result ≡ path_of numbered.entry.number numbered.entry.play.now place }
     {

@@ -1,4 +1,4 @@
-//! The notes that are printed.
+//! The notes that are printed: warnings and infos.
 ghost use Rattle.std.specs.Prelude.{◌≡◌, ◌≤◌, ◌∷◌, ◌++◌, [], IfOk, flat_map, length, map};
 ghost use Rattle.std.specs.List.{list_any};
 ghost use Rattle.bounded_io.specs.Writing.{Writes};
@@ -27,7 +27,7 @@ fn is_warning(note: &Note<'_>) -> bool
     }
 }
 
-/// Writes the line of the note, if it is printed, and returns how many warnings that are.
+/// Writes the line of the note, if it is printed, and returns how many warnings that is: an info is none.
 #[tactic(auto, using(bounded_io::proofs::Pieces::pieces_of_text))]
 fn write_told<W: Write>(
     text: &mut TextWriter<'_, W>,
@@ -75,7 +75,7 @@ fn is_any_told(notes: &[Note<'_>], allowed: &Allowed<'_>) -> bool
     notes.iter().any(|note| allowed.tells(note))
 }
 
-/// Whether a note is printed.
+/// Reports whether a note is printed.
 #[tactic(auto, using(crate::proofs::HintLemmas::any_told))]
 fn has_any_told(notes: &[Note<'_>], allowed: &Allowed<'_>) -> bool
     ensures { result ≡ list_any (isnt_allowed allowed.now) (map seen notes.now) }
@@ -83,7 +83,7 @@ fn has_any_told(notes: &[Note<'_>], allowed: &Allowed<'_>) -> bool
     is_any_told(notes, allowed)
 }
 
-/// Writes where to read on, if a note is printed.
+/// Writes where to read more, if a note is printed.
 #[tactic(auto, using(bounded_io::proofs::Pieces::pieces_of_text))]
 fn write_last<W: Write>(text: &mut TextWriter<'_, W>, notes: &[Note<'_>], allowed: &Allowed<'_>)
     ensures { Writes W.contents text.old text.new (last_line (isnt_allowed allowed.now) (map seen notes.now)) }
@@ -95,7 +95,7 @@ fn write_last<W: Write>(text: &mut TextWriter<'_, W>, notes: &[Note<'_>], allowe
     }
 }
 
-/// Writes the notes that are printed, how many of them are warnings, and what to do about each kind; returns that number.
+/// Writes the notes that are printed, how many of them are warnings, and the hint of each rule. Returns the number of warnings.
 fn write_text<W: Write>(
     text: &mut TextWriter<'_, W>,
     notes: &[Note<'_>],
@@ -127,7 +127,7 @@ fn write_notes<W: Write>(
     }
 }
 
-/// Sends the text of the notes, except those of kinds that are allowed. It takes no memory.
+/// Sends the text of the notes, except those of suppressed rules. Does not allocate.
 pub fn send_notes<W: Write>(
     notes: &Notes<'_>,
     allowed: &Allowed<'_>,

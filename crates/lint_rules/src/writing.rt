@@ -1,4 +1,4 @@
-//! A note as it is written.
+//! The line of a warning.
 ghost use Rattle.std.specs.Prelude.{◌≡◌, ◌++◌, codes, option_map};
 ghost use Rattle.bounded_io.specs.Writing.{Writes};
 ghost use Rattle.lint_rules.specs.Notes.{seen};
@@ -62,7 +62,7 @@ fn write_step<W: Write>(text: &mut TextWriter<'_, W>, at: StepPath, word: &str, 
     write_named(text, word, name);
 }
 
-/// What a condition has, after the key of this.
+/// Writes the path of a condition, with its key, and a name.
 #[tactic(auto, using(bounded_io::proofs::Pieces::pieces_of_text))]
 fn write_keyed<W: Write>(text: &mut TextWriter<'_, W>, at: StepPath, key: &str, named: (&str, &str))
     ensures { Writes W.contents text.old text.new (step_text at (codes " key=") key.now ++ named_text named.entry.0.now named.entry.1.now) }
@@ -89,7 +89,7 @@ fn write_near<W: Write>(text: &mut TextWriter<'_, W>, near: Option<&str>)
     }
 }
 
-/// Two words, and a name after each.
+/// Writes two words, each followed by a name.
 #[tactic(auto, using(bounded_io::proofs::Pieces::pieces_of_text))]
 fn write_pair<W: Write>(text: &mut TextWriter<'_, W>, first: (&str, &str), second: (&str, &str))
     ensures { Writes W.contents text.old text.new (named_text first.entry.0.now first.entry.1.now ++ named_text second.entry.0.now second.entry.1.now) }
@@ -187,7 +187,7 @@ fn write_details<W: Write>(text: &mut TextWriter<'_, W>, note: &Note<'_>)
     }
 }
 
-/// Goes on with the line of a note.
+/// Appends the line of a warning.
 #[tactic(auto, using(bounded_io::proofs::Pieces::pieces_of_text))]
 pub(crate) fn write_note<W: Write>(text: &mut TextWriter<'_, W>, note: &Note<'_>)
     ensures { Writes W.contents text.old text.new (note_line (seen note.now)) }

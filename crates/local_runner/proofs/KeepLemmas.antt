@@ -1,4 +1,4 @@
--- What is kept of bytes that come in parts.
+-- What is kept of bytes that are read in parts.
 use Rattle.std.proofs.Common.{◌≡◌, ℕ, ◌+◌, ◌-◌, List, [], ◌++◌, length, take, ap, sym, ◌∙◌, refl, inl, inr, append_assoc, arith, length-append}
 use Rattle.std.proofs.lemmas.Bool.{cases_lt}
 use Rattle.std.proofs.lemmas.List.{take-append-le, take_all, length-take}
@@ -9,7 +9,7 @@ use Rattle.std.specs.Io.KnownBytes.{Consumes}
 use Rattle.local_runner.specs.Keeping.{KeptView, kept_after}
 use Rattle.local_runner.specs.Reads.{Reads}
 
--- the first of two lists, one behind the other
+-- the first items of two concatenated lists
 pub take_both : (n m : ℕ) (xs ys : List ℕ) → m ≡ n - length xs → take n (xs ++ ys) ≡ take n xs ++ take m ys
 take_both n m xs ys is = elim (cases_lt n (length xs)) as (λ _. take n (xs ++ ys) ≡ take n xs ++ take m ys) [
   | inl within ↦ grind (arith, common_steps, take-append-le n xs ys (omega (arith, within)))

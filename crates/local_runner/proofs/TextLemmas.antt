@@ -1,4 +1,4 @@
--- How long a text is that was made of bytes, and how it ends.
+-- The length and the end of a string made of bytes.
 use Rattle.std.proofs.Common.{◌≡◌, ℕ, zero, suc, ◌+◌, ◌-◌, ◌*◌, ◌<◌, ◌≤◌, false, List, [], ◌++◌, length, take, drop, get_or, reverse, ap, sym, ◌∙◌, refl, subst, inl, inr, arith, length-append, length-drop}
 use Rattle.std.specs.List.{slice_index, suffix_len}
 use Rattle.std.specs.Str.{IsUtf8}
@@ -10,14 +10,14 @@ use Rattle.std.proofs.lemmas.Str.{utf8_lossy_empty, utf8_lossy_last_chunk, utf8_
 use Rattle.std.proofs.str.Lossy.{utf8_invalid_len_pos}
 use Rattle.local_runner.specs.Texts.{IsTextOfOutput, is_line_end, text_in, trimmed}
 
--- what is UTF-8 stays as it is
+-- valid UTF-8 is unchanged
 lossy_whole : (bytes : List ℕ) → length bytes ≤ utf8_valid_len bytes → utf8_lossy bytes ≡ bytes
 lossy_whole bytes whole =
     utf8_lossy_last_chunk bytes bytes [] [] (sym (append-nil bytes)) (omega (arith, whole, utf8_valid_len_le bytes)) refl refl
     ∙ ap (λ (l : List ℕ). bytes ++ l) (utf8_lossy_empty [] refl)
     ∙ append-nil bytes
 
--- U+FFFD has three bytes, and stands for one at least
+-- U+FFFD has three bytes, and replaces at least one
 lossy_length : (n : ℕ) (bytes : List ℕ) → length bytes ≤ n → length (utf8_lossy bytes) ≤ 3 * length bytes
 lossy_length zero bytes within =
     let none = ap (λ (l : List ℕ). length l) (utf8_lossy_empty bytes (omega (arith, within))) in
@@ -38,11 +38,11 @@ lossy_length (suc n) bytes within = elim (cases_lt (utf8_valid_len bytes) (lengt
       omega (arith, same)
 ]
 
--- what is left without the line ends at the end is as long
+-- the length without the trailing line ends
 trimmed_length : (bytes : List ℕ) → length (trimmed bytes) ≡ length bytes - suffix_len is_line_end bytes
 trimmed_length bytes = length-take-le (length bytes - suffix_len is_line_end bytes) bytes (omega arith)
 
--- it ends in none
+-- it has no trailing line end
 trimmed_cut : (bytes : List ℕ) → 0 < length (trimmed bytes) → is_line_end (slice_index (trimmed bytes) (length (trimmed bytes) - 1)) ≡ false
 trimmed_cut bytes some =
     let cut = suffix_len is_line_end bytes in

@@ -9,7 +9,7 @@ pub record KeptView : Type 0 where
 abbrev pub nothing_kept : KeptView
 nothing_kept = record { bytes = []; count = 0 }
 
--- these bytes were read behind the others: as many are kept as make 65,536
+-- these bytes were read after the others: they are kept up to 65,536 bytes in all
 abbrev pub kept_after : KeptView → List ℕ → KeptView
 kept_after kept given =
     record { bytes = kept.bytes ++ take (65536 - length kept.bytes) given; count = kept.count + length given }

@@ -6,28 +6,29 @@ use Rattle.local_runner.specs.Keeping.{KeptView, kept_after, nothing_kept}
 use Rattle.local_runner.specs.declared.read_deadline.ReadDeadline.{ReadDeadline}
 use Rattle.local_runner.specs.declared.read_deadline.ReadDeadline.TheVariants.{Running, Until}
 
--- some bytes were read, and kept behind the others
+-- some bytes were read, and appended to those kept
 pub record Reads (old new : Option (List ℕ)) (before after : KeptView) : Type 0 where
   pub given : List ℕ
   pub consumed : Consumes old new given
   pub kept : after ≡ kept_after before given
 
--- what is left of an output to read; nothing behind an end that is closed
+-- what is left of an output to read; nothing after it is closed
 abbrev pub left_of : {R : Type 0} → (R → Option (List ℕ)) → Option R → Option (List ℕ)
 left_of remaining None = Some []
 left_of remaining (Some end) = remaining end
 
--- the end of a program is waited for no longer once it was seen
+-- once the end of a program was seen, it is no longer waited for
 abbrev pub HasSeen : ReadDeadline → Option ExitStatus → Type 0
 HasSeen Running status = Unit {0}
 HasSeen (Until end) status = is_some status ≡ true
 
--- nothing more is read of what is left of both outputs: they are at their ends, or one of them had given as much as is read of an output, or the program had ended
+-- nothing more is read of what is left of both outputs: they are at their ends, one of them has reached the most bytes that are read of an
+-- output, or the program had ended
 abbrev pub IsOver : Option ExitStatus → Option (List ℕ) → Option (List ℕ) → KeptView → KeptView → Type 0
 IsOver status out_rest err_rest kept_out kept_err =
     (IsAtEnd out_rest × IsAtEnd err_rest) ⊎ (((kept_out.count ≡ 16777216) ⊎ (kept_err.count ≡ 16777216)) ⊎ (is_some status ≡ true))
 
--- both outputs were read from their beginnings until nothing more is read of them
+-- both outputs were read from their starts until nothing more is read of them
 pub record AreRead (status : Option ExitStatus) (out err : Option (List ℕ)) (kept_out kept_err : KeptView) : Type 0 where
   pub out_rest : Option (List ℕ)
   pub err_rest : Option (List ℕ)

@@ -1,4 +1,4 @@
--- Bytes of an output as a text.
+-- The bytes of an output as a string.
 use Rattle.std.specs.Prelude.{◌≡◌, ℕ, ◌-◌, ◌<◌, ◌≤◌, Bool, false, ◌||◌, ◌==◌, List, length, take}
 use Rattle.std.specs.List.{slice_index, suffix_len}
 use Rattle.std.specs.Str.{IsUtf8}
@@ -12,11 +12,11 @@ is_line_end byte = byte == 13 || byte == 10
 abbrev pub trimmed : List ℕ → List ℕ
 trimmed bytes = take (length bytes - suffix_len is_line_end bytes) bytes
 
--- U+FFFD in place of what is no UTF-8, without the line ends at the end
+-- invalid UTF-8 replaced by U+FFFD, without the line ends at the end
 abbrev pub text_in : List ℕ → List ℕ
 text_in bytes = trimmed (utf8_lossy bytes)
 
--- the text of so many first bytes of an output as are kept: UTF-8, with at most three bytes for each of those, and without a line end at its end
+-- the string of the kept first bytes of an output: UTF-8, with at most three bytes for each of those, and without a trailing line end
 pub record IsTextOfOutput (text : List ℕ) : Type 0 where
   pub kept : List ℕ
   pub few : length kept ≤ 65536

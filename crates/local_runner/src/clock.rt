@@ -1,8 +1,8 @@
-//! The time.
+//! The clock.
 use libc::net::poll;
 use libc::types::timespec;
 
-/// Milliseconds of a clock that only goes forward, from some moment on; none where the system has none.
+/// Returns the milliseconds of a monotonic clock, or none if the operating system has none.
 pub fn milliseconds() -> Option<u64> {
     let mut time = timespec {
         tv_sec: 0,
@@ -20,12 +20,12 @@ pub fn milliseconds() -> Option<u64> {
     )
 }
 
-/// Waits so many milliseconds.
+/// Waits this many milliseconds.
 pub(crate) fn wait(milliseconds: i32) {
     let _ = poll(&mut [], milliseconds);
 }
 
-/// How many milliseconds have gone by since then; 0 where there is no clock.
+/// Returns how many milliseconds have passed since then, or 0 if there is no clock.
 pub fn milliseconds_since(then: Option<u64>) -> u64 {
     match (then, milliseconds()) {
         (Some(then), Some(now)) => now.saturating_sub(then),

@@ -1,12 +1,12 @@
-//! Words as a command.
+//! A command line as a `Command`.
 ghost use Rattle.std.specs.Prelude.{◌≡◌, [], IfNone, IfOk, IfSome, map, string_bytes};
 ghost use Rattle.local_runner.specs.Starts.{IsHere};
 
 use std::alloc::{AllocError, Global};
 use std::process::{Command, Stdio};
 
-/// The first word with the others as its arguments, in this program's folder and environment, with nothing to read and both outputs to this
-/// program; none where there is no word.
+/// Returns the first word as the program and the others as its arguments, or none if there is no word. The program runs in this process's
+/// directory and environment, reads empty input, and writes both outputs to pipes of this process.
 pub(crate) fn command_of(alloc: Global, words: &[String]) -> Result<Option<Command>, AllocError>
     ensures here { IfOk result (λ made. IfSome made (λ command. IsHere command (map string_bytes words.now))) }
     ensures none { IfOk result (λ made. IfNone made (map string_bytes words.now ≡ [])) }

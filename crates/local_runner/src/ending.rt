@@ -12,14 +12,14 @@ use std::alloc::{AllocError, Global};
 use std::io;
 use std::process::ExitStatus;
 
-/// What the program gave back; -1 where a signal ended it.
+/// Returns the program's exit status, or -1 if a signal ended it.
 fn code_of(status: ExitStatus) -> i32
     ensures { result ≡ code_of status }
 {
     status.code().unwrap_or(-1)
 }
 
-/// The program ended so, and this is kept of its outputs.
+/// Returns the outcome of a program that ended with this status, and of whose outputs this was kept.
 fn ran_to(
     alloc: Global,
     status: ExitStatus,
@@ -36,7 +36,7 @@ fn ran_to(
     })
 }
 
-/// How a program ended of whose outputs this was read, and of which waiting for it told this.
+/// Returns how a program ended, given what was read of its outputs and the result of waiting for it.
 pub(crate) fn outcome_of(
     alloc: Global,
     read: Result<(Kept, Kept), Unread>,

@@ -1,4 +1,4 @@
-//! What is told of a program beside how it ended.
+//! Details of how a program ended.
 ghost use Rattle.std.specs.Prelude.{◌≡◌, IfOk};
 ghost use Rattle.std.specs.Process.{exit_signal};
 ghost use Rattle.local_runner.specs.Ends.{remark_in};
@@ -8,17 +8,17 @@ use std::io;
 use std::os::unix::process::ExitStatusExt;
 use std::process::ExitStatus;
 
-/// What there is to tell of a program beside its outcome.
+/// What is reported about a program in addition to its outcome.
 #[derive(Debug, Drop)]
 pub enum ExitDetail {
     Nothing,
     /// The signal that ended it.
     Signal(i32),
-    /// Its first word, and what the system said when it was to be started.
+    /// Its name, and the error with which the operating system refused to start it.
     Refused(String),
 }
 
-/// What is told beside the outcome of a program for which was waited so.
+/// Returns the exit detail for the result of waiting for a program.
 pub(crate) fn remark_of(waited: &io::Result<ExitStatus>) -> ExitDetail
     ensures { IfOk waited.now (λ status. result ≡ remark_in (exit_signal status)) }
 {
@@ -31,7 +31,7 @@ pub(crate) fn remark_of(waited: &io::Result<ExitStatus>) -> ExitDetail
     }
 }
 
-/// What is told of a start of these words that was refused so; nothing where memory is wanting for it.
+/// Returns the exit detail for a command that could not be started, or nothing if an allocation fails.
 pub(crate) fn refusal_of(alloc: Global, words: &[String], error: &Option<io::Error>) -> ExitDetail {
     match (words.first(), error) {
         (Some(program), Some(error)) => match text_of(alloc, program.as_str(), error) {
@@ -42,7 +42,7 @@ pub(crate) fn refusal_of(alloc: Global, words: &[String], error: &Option<io::Err
     }
 }
 
-/// What the system says of a program that it doesn't start. Of a file that it can't run it doesn't say what to do.
+/// Returns the program's name with the operating system's error. Adds a hint for a file that it can't execute.
 fn text_of(alloc: Global, program: &str, error: &io::Error) -> Result<String, AllocError> {
     let mut text = String::from_str(alloc, program)?;
     text.push_str(": ")?;

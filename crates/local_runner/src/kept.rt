@@ -5,10 +5,10 @@ ghost use Rattle.local_runner.specs.Keeping.{kept_after, nothing_kept};
 use std::alloc::{AllocError, Global};
 use std::marker::Model;
 
-/// So many bytes are kept of an output: its first.
+/// How many bytes of an output are kept: its first.
 const MAX_KEPT: usize = 65_536;
 
-/// So many bytes are read of an output, those that are kept among them.
+/// How many bytes of an output are read, including those that are kept.
 const MAX_READ: usize = 16_777_216;
 
 /// The first bytes of an output, and how many of it were read.
@@ -39,14 +39,14 @@ impl Kept {
         }
     }
 
-    /// How many more bytes are to be read.
+    /// Returns how many more bytes are to be read.
     pub(crate) fn room(&self) -> usize
         ensures { result + self.now.count ≡ 16777216 }
     {
         MAX_READ - self.read
     }
 
-    /// Keeps what of these bytes, which were read behind the others, is among the first of the output.
+    /// Appends bytes that were read, and keeps those within the limit.
     pub(crate) fn push(&mut self, bytes: &[u8]) -> Result<(), AllocError>
         requires { self.old.count + length bytes.now ≤ 16777216 }
         ensures ok { OnOk result (self.new ≡ kept_after self.old bytes.now) }
@@ -58,7 +58,7 @@ impl Kept {
         Ok(())
     }
 
-    /// The bytes that are kept.
+    /// Returns the bytes that are kept.
     pub(crate) fn as_slice(&self) -> &[u8]
         ensures bytes { result.now ≡ self.now.bytes }
         ensures few { length result.now ≤ 65536 }

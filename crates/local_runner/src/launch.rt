@@ -1,4 +1,4 @@
-//! Who starts programs.
+//! Starting programs.
 ghost use Rattle.std.specs.Prelude.{ℕ, List, IfErr, IfOk};
 ghost use Rattle.std.specs.declared.process.status.ExitStatus.{ExitStatus};
 ghost use Rattle.local_runner.specs.Starts.{IsHere};
@@ -8,7 +8,7 @@ use roll_core::Go;
 use std::io;
 use std::process::{Child, Command, ExitStatus, Processes, SystemProcess};
 
-/// Stands for a program that was started and that nobody has waited for, by its number.
+/// Represents a program that was started and has not been waited for, by its number.
 #[derive(Debug, Drop)]
 pub struct Pending {
     id: u32,
@@ -20,33 +20,34 @@ impl Pending {
     }
 }
 
-/// Starts programs, and waits for them. With which words one was started or refused, and how one of these words ended, are its relations: nothing
-/// else establishes them.
+/// Starts programs, and waits for them. Its relations define which commands were started or refused, and how a program of a command ended.
+/// Nothing else establishes them.
 pub trait Launch {
-    /// A program was started with these words, in the folder and environment of this program.
+    /// A program was started with these words, in the directory and environment of this process.
     ghost is_started: { List (List ℕ) → Type 0 };
 
-    /// No program was started with these words: the system refused it.
+    /// No program was started with these words, because the operating system refused it.
     ghost is_refused: { List (List ℕ) → Type 0 };
 
-    /// It stands for one that was started with these words.
+    /// It represents a program that was started with these words.
     ghost is_pending: { Pending → List (List ℕ) → Type 0 };
 
-    /// A program that was started with these words ended so.
+    /// A program that was started with these words ended with this status.
     ghost has_ended: { List (List ℕ) → ExitStatus → Type 0 };
 
-    /// Starts the program of the command, which uses up the leave, or hands it back and says why the system doesn't start it.
+    /// Starts the program of the command and consumes the permit. If the operating system refuses to start it, returns the permit and the
+    /// error.
     fn launch(&self, go: Go, command: Command) -> Result<(Child, Pending), (Go, io::Error)>
         ensures started { IfOk result (λ started. (words : List (List ℕ)) → IsHere command words → is_started words) }
         ensures pending { IfOk result (λ started. (words : List (List ℕ)) → IsHere command words → is_pending started.1 words) }
         ensures refused { IfErr result (λ _. (words : List (List ℕ)) → IsHere command words → is_refused words) };
 
-    /// Waits for the end of the program.
+    /// Waits for the program to end.
     fn wait(&self, pending: Pending, child: Child) -> io::Result<ExitStatus>
         ensures { IfOk result (λ status. (words : List (List ℕ)) → is_pending pending words → has_ended words status) };
 }
 
-/// The operating system, of which nothing is known.
+/// The operating system, about which nothing is assumed.
 #[derive(Drop)]
 pub struct System<'a, R> {
     rt: &'a R,

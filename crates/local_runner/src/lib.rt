@@ -1,4 +1,4 @@
-//! A runner that runs the programs of a roll on this machine, and leaves notes of them for whoever tells of the roll.
+//! A runner that runs the programs of a run on the local machine, and leaves details of them for the progress reporter.
 #![tactic(auto)]
 
 mod clock;

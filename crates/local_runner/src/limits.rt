@@ -1,15 +1,15 @@
-//! What the system allows this process.
+//! What the operating system permits this process.
 use libc::types::rlimit;
 
-/// What the system calls the number of processes of a user.
+/// The operating system's number for the limit on a user's processes.
 const RLIMIT_NPROC: i32 = 6;
 
-/// How many descriptors this process may have; none where the system doesn't say.
+/// Returns how many descriptors this process may have, or none if the operating system doesn't report it.
 pub(crate) fn descriptors() -> Option<u64> {
     limit_of(libc::RLIMIT_NOFILE)
 }
 
-/// How many processes and threads this user may have; none where the system doesn't say.
+/// Returns how many processes and threads this user may have, or none if the operating system doesn't report it.
 pub(crate) fn processes() -> Option<u64> {
     limit_of(RLIMIT_NPROC)
 }

@@ -9,11 +9,11 @@ use std::alloc::{AllocError, Global};
 use std::io::{ErrorKind, Read};
 use std::os::fd::{AsRawFd, RawFd};
 
-/// Why an output could not be had.
+/// Why an output could not be obtained.
 #[derive(Clone, Copy, Debug, PartialEq, Eq, Drop)]
 pub(crate) enum Unread {
     Memory,
-    /// A read, the wait for one, or the look at the program failed.
+    /// A read, the wait for one, or the check on the program failed.
     Failed,
 }
 
@@ -23,7 +23,7 @@ impl From<AllocError> for Unread {
     }
 }
 
-/// One output of a program. Its end is closed once nothing more comes.
+/// One output of a program. Its pipe is closed once nothing more comes.
 #[derive(Drop)]
 pub(crate) struct Output<R> {
     end: Option<R>,
@@ -41,14 +41,14 @@ impl<R: Read + AsRawFd + Drop> Output<R> {
         }
     }
 
-    /// Whether nothing more comes.
+    /// Reports whether nothing more comes.
     pub(crate) fn is_closed(&self) -> bool
         ensures { IsTrue result ↔ (self.now.end ≡ None) }
     {
         self.end.is_none()
     }
 
-    /// The number of its end, for `poll`; none where it is closed.
+    /// Returns the descriptor of its pipe for `poll`, which ignores a closed one.
     pub(crate) fn number(&self) -> RawFd {
         match &self.end {
             Some(end) => end.as_raw_fd(),
@@ -56,7 +56,7 @@ impl<R: Read + AsRawFd + Drop> Output<R> {
         }
     }
 
-    /// One read, where one won't wait.
+    /// Reads once, if that won't block.
     pub(crate) fn read_on(&mut self, is_ready: bool, chunk: &mut [u8]) -> Result<(), Unread>
         requires chunk { 0 < length chunk.old }
         requires room { self.old.kept.count < 16777216 }
@@ -74,7 +74,7 @@ impl<R: Read + AsRawFd + Drop> Output<R> {
     }
 }
 
-/// One read, and whether more may come.
+/// Reads once, and reports whether more can come.
 fn read_some<R: Read>(end: &mut R, kept: &mut Kept, chunk: &mut [u8]) -> Result<bool, Unread>
     requires chunk { 0 < length chunk.old }
     requires room { kept.old.count < 16777216 }

@@ -1,4 +1,4 @@
-//! Both outputs of a program, read at once.
+//! Reading both outputs of a program at once.
 ghost use Rattle.std.specs.Prelude.{◌≡◌, ◌<◌, IfOk, Option, false, true};
 ghost use Rattle.std.specs.Process.{child_status};
 ghost use Rattle.local_runner.specs.Reads.{AreRead, IsOver, left_of};
@@ -15,11 +15,11 @@ use std::os::fd::{AsRawFd, RawFd};
 use std::process::{Child, OpenProcess};
 use std::sync::Wait;
 
-/// How much a single read asks for.
+/// The size of a single read.
 const CHUNK: usize = 16_384;
 
-/// Reads both outputs to their ends, until one of them is longer than what is read of an output, or until the program has ended and nothing
-/// more has come for a moment: whoever else holds the outputs is not waited for. Both are closed on each way out.
+/// Reads both outputs to their ends. Stops earlier if one of them reaches the most bytes that are read of an output. Also stops a moment
+/// after the program has ended, if nothing more came: it doesn't wait for other processes that hold the outputs. Closes both on every path.
 pub(crate) fn read_both<
     H: Wait,
     P: OpenProcess,
@@ -54,7 +54,7 @@ pub(crate) fn read_both<
     unreachable!()
 }
 
-/// Whether nothing more is read of them: both are closed, or one of them is longer than what is read of an output.
+/// Reports whether nothing more is read of them: both are closed, or one has reached the most bytes that are read of an output.
 fn are_read<O: Read + AsRawFd + Drop, E: Read + AsRawFd + Drop>(
     out: &Output<O>,
     err: &Output<E>,
@@ -70,8 +70,8 @@ fn are_read<O: Read + AsRawFd + Drop, E: Read + AsRawFd + Drop>(
     out.kept.room() == 0 || err.kept.room() == 0
 }
 
-/// Waits until a read of one of the two won't wait, so many milliseconds at most, and says of which. Neither where that time has gone by or a
-/// signal comes first.
+/// Waits at most this many milliseconds until a read of one of the two won't block, and reports which. Reports neither if the time passes
+/// or a signal comes first.
 fn ready(first: RawFd, second: RawFd, milliseconds: u32) -> Result<(bool, bool), Unread> {
     let ask = |fd| pollfd {
         fd,

@@ -1,28 +1,28 @@
-//! How many programs are under way at once.
+//! How many programs run at once.
 use crate::clock::milliseconds;
 use crate::limits::descriptors;
 use std::sync::{Condvar, Mutex, MutexGuard, Wait};
 
-/// What the program itself has open, and what starting one more program takes for a moment.
+/// The descriptors this process itself has open, and those that starting one more program needs for a moment.
 const KEPT: u64 = 16;
 
-/// What a program has open here while it is under way, and its part of what starts take for a moment.
+/// The descriptors this process has open for each running program, including its part of what starts need for a moment.
 const EACH: u64 = 3;
 
 /// No run works on more hosts at once.
 const MOST: usize = 64;
 
-/// While no program is under way whose end would free something, starts are tried again for so many milliseconds.
+/// If no program is running whose end would free resources, starts are retried for this many milliseconds.
 const PATIENCE: u64 = 10_000;
 
-/// Since when, by the clock, no program could be started though none was under way, and when that was seen last.
+/// Since when no program could be started though none was running, and when that was last seen.
 #[derive(Clone, Copy, Debug, Drop)]
 struct Shortage {
     since: u64,
     last: u64,
 }
 
-/// How many programs have come in, how many of them were started, and the last shortage that no start has ended.
+/// How many programs are inside, how many of them were started, and the last shortage that no start has ended.
 #[derive(Clone, Copy, Debug, Drop)]
 struct ActiveCount {
     all: usize,
@@ -30,7 +30,7 @@ struct ActiveCount {
     shortage: Option<Shortage>,
 }
 
-/// Lets no more programs be under way at once than this process may have descriptors for. Where it has enough for all, nobody waits.
+/// Limits how many programs run at once to the descriptors this process may have. If there are enough for all, no program waits.
 #[derive(Drop)]
 pub(crate) struct ProcessLimiter {
     descriptors: Option<u64>,
@@ -56,17 +56,18 @@ impl ProcessLimiter {
         }
     }
 
-    /// How many descriptors there are, and how many programs are under way at most for that; none where the system doesn't say.
+    /// Returns the number of descriptors, and how many programs can run at once with them, or none if the operating system doesn't report
+    /// it.
     pub(crate) fn bounds(&self) -> Option<(u64, usize)> {
         Some((self.descriptors?, self.most))
     }
 
-    /// Whether who comes in now has to wait until another one leaves.
+    /// Reports whether a program that enters now has to wait until another one leaves.
     pub(crate) fn is_full<H: Wait>(&self, rt: &H) -> bool {
         self.inside.lock(rt).all >= self.most
     }
 
-    /// Comes in, where it is full once another one has left.
+    /// Enters, and waits before that until there is space.
     pub(crate) fn enter<H: Wait>(&self, rt: &H) {
         let inside = self.inside.lock(rt);
         let mut inside = self
@@ -75,14 +76,14 @@ impl ProcessLimiter {
         inside.all = inside.all.saturating_add(1);
     }
 
-    /// The program of one that came in was started.
+    /// Records that the program of one that entered was started.
     pub(crate) fn starts<H: Wait>(&self, rt: &H) {
         let mut inside = self.inside.lock(rt);
         inside.started = inside.started.saturating_add(1);
         inside.shortage = None;
     }
 
-    /// One that came in leaves: its program was started and is over, or it wasn't.
+    /// Leaves: its program was started and has ended, or was not started.
     pub(crate) fn leave<H: Wait>(&self, rt: &H, was_started: bool) {
         let mut inside = self.inside.lock(rt);
         inside.all = inside.all.saturating_sub(1);
@@ -92,8 +93,8 @@ impl ProcessLimiter {
         self.left.notify_one();
     }
 
-    /// Whether to try again what the system was too short of something for: another program is under way, or none has been for a short time
-    /// only. Without a clock that time is over at once.
+    /// Reports whether to retry a start that failed for lack of a resource. That is so if another program is running, or none has been for
+    /// only a short time. Without a clock, that time has passed at once.
     pub(crate) fn is_worth_a_try<H: Wait>(&self, rt: &H) -> bool {
         let mut inside = self.inside.lock(rt);
         if inside.started > 0 {
@@ -110,13 +111,13 @@ impl ProcessLimiter {
         now.saturating_sub(since) < PATIENCE
     }
 
-    /// Waits until nobody else tries again, and keeps it so as long as the guard is held.
+    /// Waits until no other start is being retried. None is while the guard is held.
     pub(crate) fn try_alone<H: Wait>(&self, rt: &H) -> MutexGuard<'_, ()> {
         self.again.lock(rt)
     }
 }
 
-/// How many programs are under way at once with so many descriptors: one at least.
+/// Returns how many programs can run at once with this many descriptors, at least one.
 fn most_at_once(descriptors: Option<u64>) -> usize {
     let Some(descriptors) = descriptors else {
         return MOST;

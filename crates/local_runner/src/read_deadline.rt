@@ -10,13 +10,13 @@ use crate::output::Unread;
 use std::io::ErrorKind;
 use std::process::{Child, OpenProcess};
 
-/// While a program runs its end is looked for so often, in milliseconds: that of a program which leaves nobody behind shows by its outputs at once.
+/// How often the end of a running program is checked for, in milliseconds. If nothing else holds its outputs, their ends show it at once.
 const LOOK: u32 = 100;
 
-/// So many milliseconds more its outputs are waited for once it has ended. What it wrote itself lies in the pipes by then.
+/// How many milliseconds its outputs are waited for after it has ended. What it wrote itself is in the pipes by then.
 const MOMENT: u64 = 200;
 
-/// How long outputs are waited for: while the program runs, or until then, by the clock, once it has ended.
+/// How long outputs are waited for: while the program runs, or until this time of the clock once it has ended.
 #[derive(Clone, Copy, Debug, Drop)]
 pub(crate) enum ReadDeadline {
     Running,
@@ -30,7 +30,7 @@ impl ReadDeadline {
         ReadDeadline::Running
     }
 
-    /// Whether nothing more is waited for: the program has ended, nothing is left of the moment behind that, and nothing lies there to be read.
+    /// Reports whether to stop waiting: the program has ended, the moment after that has passed, and there is nothing to read.
     pub(crate) fn is_over(self, left: u32, is_ready: bool) -> bool
         ensures ended { (status : Option ExitStatus) → HasSeen self status → result ≡ true → is_some status ≡ true }
         ensures nothing_lies_there { result ≡ true → is_ready ≡ false }
@@ -41,7 +41,7 @@ impl ReadDeadline {
         }
     }
 
-    /// How many milliseconds may be waited before the next look.
+    /// Returns how many milliseconds to wait at most before the next check.
     pub(crate) fn left(self) -> u32 {
         match self {
             ReadDeadline::Running => LOOK,
@@ -52,7 +52,7 @@ impl ReadDeadline {
         }
     }
 
-    /// Looks whether the program has ended.
+    /// Checks whether the program has ended.
     pub(crate) fn look_at<P: OpenProcess>(
         self,
         child: &mut Child<P>,
@@ -72,7 +72,7 @@ impl ReadDeadline {
     }
 }
 
-/// When the moment is over that begins now. Without a clock it is over at once.
+/// Returns when the moment that starts now has passed. Without a clock, that is at once.
 fn end_of_moment() -> u64 {
     match milliseconds() {
         Some(now) => now.saturating_add(MOMENT),

@@ -1,4 +1,4 @@
-//! What is left for whoever tells of a run.
+//! Messages for the progress reporter.
 ghost use Rattle.std.specs.Prelude.{◌≡◌, ◌<◌, IfSome, length};
 
 use crate::exit_detail::ExitDetail;
@@ -7,7 +7,7 @@ use std::alloc::Global;
 use std::mem;
 use std::sync::{Mutex, Wait};
 
-/// What is left of a program once it has ended or wasn't started: a remark, and how many milliseconds it took.
+/// What is left of a program once it has ended or was not started: its exit detail, and how many milliseconds it took.
 #[derive(Debug, Drop)]
 pub struct Note {
     pub remark: ExitDetail,
@@ -21,7 +21,8 @@ struct Noted {
     note: Note,
 }
 
-/// `gate` is taken away by the first who asks; `was_full` stays. So many batches are ahead. `rest` is to be told behind everything else.
+/// The first reader takes `gate`; `was_full` stays set. `ahead` is the number of batches the plan still has. `rest` is shown after
+/// everything else.
 #[derive(Debug, Drop)]
 struct Left {
     is_wanted: bool,
@@ -32,8 +33,8 @@ struct Left {
     rest: Vec<u8>,
 }
 
-/// What workers and others leave for whoever tells of a run, so that one thread alone tells. Where nobody does, nothing is left. What can't be left
-/// for want of memory is missing there, and changes nothing of the run.
+/// What workers and others leave for the progress reporter, so that only one thread writes. If nothing is to be shown, nothing is left. If
+/// an allocation fails, a message is missing, and the run is not affected.
 #[derive(Drop)]
 pub struct ReporterInbox {
     alloc: Global,
@@ -41,7 +42,7 @@ pub struct ReporterInbox {
 }
 
 impl ReporterInbox {
-    /// Nothing is wanted yet.
+    /// Returns an empty inbox that accepts nothing yet.
     pub fn new(alloc: Global) -> ReporterInbox {
         ReporterInbox {
             alloc,
@@ -56,17 +57,17 @@ impl ReporterInbox {
         }
     }
 
-    /// A run may begin. Says whether anybody is told of anything.
+    /// Starts a run, and records whether anything is to be shown.
     pub fn begin<H: Wait>(&self, rt: &H, is_wanted: bool) {
         self.left.lock(rt).is_wanted = is_wanted;
     }
 
-    /// Whether anybody is told of anything.
+    /// Reports whether anything is to be shown.
     pub fn is_wanted<H: Wait>(&self, rt: &H) -> bool {
         self.left.lock(rt).is_wanted
     }
 
-    /// Leaves the note of the program that this host had.
+    /// Leaves the note of this host's program.
     pub(crate) fn leave<H: Wait>(&self, rt: &H, host: HostId, note: Note) {
         let mut left = self.left.lock(rt);
         if left.is_wanted {
@@ -74,13 +75,13 @@ impl ReporterInbox {
         }
     }
 
-    /// Takes the note of this host away, where one was left.
+    /// Takes the note of this host, if there is one.
     pub fn take<H: Wait>(&self, rt: &H, host: HostId) -> Option<Note> {
         let mut left = self.left.lock(rt);
         take_from(&mut left.notes, host)
     }
 
-    /// Somebody had to wait, since no more programs are under way at once: so many, for so many descriptors.
+    /// Records that a program had to wait because of the limit on programs at once, with its bounds.
     pub(crate) fn gate_is_full<H: Wait>(&self, rt: &H, bounds: Option<(u64, usize)>) {
         let mut left = self.left.lock(rt);
         if left.is_wanted && !left.was_full {
@@ -89,24 +90,24 @@ impl ReporterInbox {
         }
     }
 
-    /// How many descriptors there are, and how many programs are under way at most for that: the first time only, and only once somebody had to
-    /// wait.
+    /// Returns the number of descriptors, and how many programs can run at once with them. Returns them only the first time, and only once
+    /// a program had to wait.
     pub fn gate<H: Wait>(&self, rt: &H) -> Option<(u64, usize)> {
         let mut left = self.left.lock(rt);
         left.gate.take()
     }
 
-    /// The plan has so many batches from here on.
+    /// Records how many batches the plan has from here on.
     pub fn plan<H: Wait>(&self, rt: &H, ahead: usize) {
         self.left.lock(rt).ahead = ahead;
     }
 
-    /// How many batches the plan had from there on, when that was said last.
+    /// Returns how many batches the plan had from there on when it was last recorded.
     pub fn ahead<H: Wait>(&self, rt: &H) -> usize {
         self.left.lock(rt).ahead
     }
 
-    /// Keeps lines that are to be told behind everything else, where anybody is told of anything. They go behind those that were kept before.
+    /// Appends lines that are to be shown after everything else, if anything is to be shown.
     pub fn keep<H: Wait>(&self, rt: &H, lines: Vec<u8>) {
         let mut left = self.left.lock(rt);
         if !left.is_wanted {
@@ -119,14 +120,14 @@ impl ReporterInbox {
         }
     }
 
-    /// Takes away what was kept.
+    /// Takes the lines that were kept.
     pub fn rest<H: Wait>(&self, rt: &H) -> Vec<u8> {
         let mut left = self.left.lock(rt);
         mem::replace(&mut left.rest, Vec::new(self.alloc))
     }
 }
 
-/// Where a note of this host lies.
+/// Returns the index of this host's note.
 fn place_of(notes: &[Noted], host: HostId) -> Option<usize>
     ensures within { IfSome result (λ place. place < length notes.now) }
 {

@@ -1,4 +1,4 @@
-//! Programs of this machine as a runner.
+//! Local programs as a runner.
 ghost use Rattle.std.specs.Prelude.{◌≡◌, IfOk, true};
 ghost use Rattle.host_track.specs.Endings.{ending_of};
 ghost use Rattle.roll_core.specs.RunPermits.{IsGoOf};
@@ -19,10 +19,10 @@ use std::process::{Child, Processes, SystemProcess};
 use std::sync::Wait;
 use std::thread::Threads;
 
-/// Runs each program on this machine: the first word with the others as its arguments and no shell, in this program's folder and environment,
-/// with nothing to read, and no more of them at once than this process may have descriptors for. What it may tell of a program is an end that one
-/// has here: that it ran only if it was started with the words of its step, and that it isn't started only if the system refused these. It leaves a
-/// note of each.
+/// Runs each program on the local machine. The first word is the program and the others are its arguments; no shell is involved. The
+/// program has this process's directory and environment, and reads empty input. No more programs run at once than this process may have
+/// descriptors for. It reports only how a program really ended. It reports that one ran only if it was started with its step's words. It
+/// reports that one isn't started only if the operating system refused these words. It leaves a note of each program.
 #[derive(Drop)]
 pub struct LocalPrograms<'a, L: Launch + Sync> {
     launch: L,
@@ -79,7 +79,7 @@ impl<L: Launch + Sync> Runner for LocalPrograms<'_, L> {
     ghost one_relation = { λ one other alike work ending. ((λ may. may), λ may. may) };
 }
 
-/// Starts the program of the job where the gate let it in, and sees it to its end; then it leaves.
+/// Starts the program of the job after the limiter admits it, and waits for its end; then it leaves.
 fn run_program<L: Launch, H: Wait>(
     launch: &L,
     rt: &H,

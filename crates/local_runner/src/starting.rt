@@ -17,25 +17,25 @@ use std::sync::Wait;
 /// Milliseconds between two tries.
 const PAUSE: i32 = 10;
 
-/// The system has as many open files as it takes.
+/// The operating system can open no more files.
 const ENFILE: i32 = 23;
 
-/// A program that was started, with what stands for it; or why it wasn't: what the system said, if it was asked.
+/// A program that was started, and what represents it. Or why it wasn't started: the operating system's error, if it was called.
 #[derive(Drop)]
 pub(crate) enum Started {
     Running(Child, Pending),
     Refused(Option<io::Error>),
 }
 
-/// A start that may be tried again with the leave.
+/// A failed start that can be retried with the permit.
 #[derive(Drop)]
 struct Refusal {
     go: Go,
     error: Option<io::Error>,
 }
 
-/// Starts the program of the job, and uses up the leave for that. Where the system is short of descriptors or processes, that says nothing of
-/// the program: it is tried again while another one of the run is under way, and for some seconds where none is.
+/// Starts the program of the job, and consumes the permit for that. A lack of descriptors or processes is no fault of the program. So the
+/// start is retried while another program of the run is running, and for some seconds if none is.
 pub(crate) fn start<L: Launch, H: Wait>(
     launch: &L,
     rt: &H,
@@ -60,7 +60,7 @@ pub(crate) fn start<L: Launch, H: Wait>(
             error => return Ok(Started::Refused(error)),
         }
         wait(PAUSE);
-        // Those who try again would take from one another what each needs for its start.
+        // Concurrent retries would take from one another what each needs for its start.
         let alone = gate.try_alone(rt);
         let again = start_once(launch, alloc, go, job.words());
         drop(alone);
@@ -92,7 +92,7 @@ fn start_once<L: Launch>(
     }
 }
 
-/// Whether the system is short of what a start takes.
+/// Reports whether the operating system lacks what a start needs.
 fn is_short(error: &io::Error) -> bool {
     match error.raw_os_error() {
         Some(number) => number == libc::EMFILE || number == ENFILE || number == libc::EAGAIN,

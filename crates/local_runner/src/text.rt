@@ -1,4 +1,4 @@
-//! Bytes of an output as a text.
+//! The bytes of an output as a string.
 ghost use Rattle.std.specs.Prelude.{◌≡◌, ◌+◌, ◌<◌, ◌≤◌, IfOk, length, string_bytes, true};
 ghost use Rattle.std.specs.List.{slice_index, suffix_len};
 ghost use Rattle.local_runner.specs.Texts as spec;
@@ -11,7 +11,7 @@ fn is_line_end(byte: u8) -> bool
     byte == b'\r' || byte == b'\n'
 }
 
-/// How many bytes are left without the line ends at their end.
+/// Returns how many bytes remain without the line ends at their end.
 fn trimmed_len(bytes: &[u8]) -> usize
     ensures value { result + suffix_len spec.is_line_end bytes.now ≡ length bytes.now }
     ensures cut { result < length bytes.now → spec.is_line_end (slice_index bytes.now result) ≡ true }
@@ -23,7 +23,7 @@ fn trimmed_len(bytes: &[u8]) -> usize
     len
 }
 
-/// What is kept of an output as a text: U+FFFD in place of what is no UTF-8, and without the line ends at the end.
+/// Returns what is kept of an output as a string, without trailing line ends. Replaces invalid UTF-8 by U+FFFD.
 pub(crate) fn text_of(alloc: Global, bytes: &[u8]) -> Result<String, AllocError>
     requires { length bytes.now ≤ 65536 }
     ensures value { IfOk result (λ text. string_bytes text ≡ spec.text_in bytes.now) }

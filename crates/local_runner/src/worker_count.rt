@@ -7,14 +7,14 @@ use std::sync::{Mutex, Wait};
 use std::thread;
 use std::thread::Threads;
 
-/// Where a user may have so many processes, a run isn't short of them.
+/// If a user may have this many processes, a run doesn't run out of them.
 const ENOUGH: u64 = 4_096;
 
-/// Milliseconds after which threads that have ended don't count any more.
+/// Milliseconds after which threads that have ended no longer count.
 const PAUSE: i32 = 20;
 
-/// How many workers a run has that was asked for so many: as many as can be started while each has a program under way. Where the system
-/// doesn't bound processes, or by a large number, that is all of them.
+/// Returns how many workers a run has if `forks` were requested. Halves the number until twice as many threads can be started, since each
+/// worker has a program running. If the limit on processes is large or unknown, that is all of them.
 pub fn workers<H: Threads + Wait + Sync>(rt: &H, forks: usize) -> usize
     requires { 0 < forks }
     ensures some { 0 < result }
@@ -29,12 +29,12 @@ pub fn workers<H: Threads + Wait + Sync>(rt: &H, forks: usize) -> usize
     workers
 }
 
-/// Whether so many threads can be started beside one another. Once it says so they don't count any more.
+/// Reports whether this many threads can exist at once. When it returns, they no longer count.
 fn can_start<H: Threads + Wait + Sync>(rt: &H, threads: usize) -> bool {
     let door = Mutex::new(());
     let door = &door;
     let can = thread::scope(thread::scope_env(), rt, move |scope| -> bool {
-        // Each stays at the door until all are there.
+        // The threads block on the mutex until all of them exist.
         let closed = door.lock(rt);
         let mut all = true;
         for _ in 0..threads {

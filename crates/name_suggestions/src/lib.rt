@@ -1,4 +1,4 @@
-//! The one of some names that was probably meant where another was written.
+//! Suggests the name that was probably meant when another was written.
 #![tactic(auto)]
 
 mod few_edits;

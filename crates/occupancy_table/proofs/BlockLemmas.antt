@@ -6,7 +6,7 @@ use Rattle.batch_plan.proofs.CeilLemmas.{ceil_least}
 use Rattle.occupancy_table.specs.TableText.{span_at}
 use Rattle.occupancy_table.specs.declared.grid.Span.{Span}
 
--- before the last block's end there are columns left
+-- before the end of the last block there are columns left
 module _ (side total block : ℕ) (some : 0 < side) (before : block < div_ceil total side) where
   left : block * side < total
   left = by_case (cases_lt (block * side) total)

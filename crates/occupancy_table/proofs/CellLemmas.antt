@@ -43,7 +43,7 @@ place_of_status statuses host = by_case (cases_lt host (length statuses))
     by_case (inr past) =
         get_or_past (map place_of statuses) host Up (omega (arith, past, length-map statuses place_of)) ∙ ap place_of (sym (get_or_past statuses host Idle past))
 
--- counts that stand say how many of each group are down
+-- current counts state how many hosts of each group are down
 module _ (statuses : List Status) (counted : Counted) (are : AreCountsOf statuses counted) where
   down_at : (host : ℕ) → places.is_down (place_at counted.places host) ≡ is_down (status_at statuses host)
   down_at host =
@@ -56,12 +56,12 @@ module _ (statuses : List Status) (counted : Counted) (are : AreCountsOf statuse
       (count_agree (λ host. places.is_down (place_at counted.places host)) (λ host. is_down (status_at statuses host)) down_at (list_at counted.fleet.members group))
       ∙ ap (λ (l : List ℕ). down_count statuses (list_at counted.fleet.members group) ∷ l) (counts_stand groups)
 
--- how many are down of the groups that the nodes are
+-- how many hosts are down in the groups of the nodes
 pub downs_are : (counted : Counted) (groups : List ℕ) → map (λ (node : Node). node.down) (map (node_at counted) groups) ≡ map (counts.down_in counted) groups
 downs_are counted [] = refl
 downs_are counted (group ∷ groups) = ap (λ (l : List ℕ). counts.down_in counted group ∷ l) (downs_are counted groups)
 
--- so they are the counts of a column, while its batch runs
+-- likewise for the counts of a column while its batch runs
 pub column_stands : (fleet : FleetView) (column : Column) (statuses : List Status) (counted : Counted) (found : List ℕ) → AreCountsOf statuses counted → statuses ≡ at_work column
     → counted.fleet ≡ fleet → found ≡ map (counts.down_in counted) (limited_groups counted.fleet) → found ≡ counts_in fleet column
 column_stands fleet column statuses counted found are works same is =
@@ -69,12 +69,12 @@ column_stands fleet column statuses counted found are works same is =
     ∙ ap (λ (f : FleetView). map (λ group. down_count statuses (list_at f.members group)) (limited_groups f)) same
     ∙ ap (λ (l : List Status). map (λ group. down_count l (list_at fleet.members group)) (limited_groups fleet)) works
 
--- what holds of a result holds of what follows from it
+-- a consequence of what holds for a result
 pub if_ok : {T E : Type 0} {P Q : T → Type 0} (result : Result T E) → ((value : T) → P value → Q value) → IfOk result P → IfOk result Q
 if_ok (Ok value) follows holds = follows value holds
 if_ok (Err error) follows holds = tt
 
--- one host more has its status, and is counted so
+-- one more host has its status, and is counted accordingly
 pub one_host : (statuses : List Status) (counted : Counted) (host : ℕ) (status : Status) → AreCountsOf statuses counted
     → AreCountsOf (set statuses host status) (moved counted host (place_of status))
 one_host statuses counted host status are = record {
@@ -82,7 +82,7 @@ one_host statuses counted host status are = record {
   places = ap (λ (all : List Place). set all host (place_of status)) are.places ∙ sym (map-set place_of statuses host status);
 }
 
--- one host more is given the status, or there is none of its number
+-- one more host gets the status, or there is none of its number
 pub changed_next : (status : Status) (hosts : List HostId) (i : ℕ) (d : HostId) → i < length hosts → (statuses : List Status)
     → set (changed (λ _. status) (take i (host_numbers hosts)) statuses) (get_or hosts i d).index status ≡ changed (λ _. status) (take (i + 1) (host_numbers hosts)) statuses
 changed_next status hosts i d within statuses = by_case (cases_lt (get_or hosts i d).index (length statuses))
@@ -97,7 +97,7 @@ changed_next status hosts i d within statuses = by_case (cases_lt (get_or hosts 
         set_past so_far (get_or hosts i d).index status (omega (arith, past, length-changed (λ _. status) (take i (host_numbers hosts)) statuses))
         ∙ given_past_host (λ _. status) hosts i d within statuses past
 
--- who is given one status after another has the later one
+-- a host that gets one status after another has the later one
 pub changed_over : (first second : Status) (hosts : List ℕ) (statuses : List Status)
     → changed (λ _. second) hosts (changed (λ _. first) hosts statuses) ≡ changed (λ _. second) hosts statuses
 changed_over first second hosts statuses =
@@ -121,7 +121,7 @@ changed_over first second hosts statuses =
         status_at-changed (λ _. second) hosts before k (omega (arith, l, once)) ∙ ap (cond (has_number k hosts) second) (status_at-changed (λ _. first) hosts statuses k l)
         ∙ over (has_number k hosts) (status_at statuses k) ∙ sym (status_at-changed (λ _. second) hosts statuses k l)
 
--- the statuses once these batches are updated
+-- the statuses after these batches are updated
 abbrev pub behind : List Status → List (List ℕ) → List Status
 behind statuses [] = statuses
 behind statuses (batch ∷ rest) = behind (changed (λ _. Updated) batch statuses) rest
@@ -136,7 +136,7 @@ planned_push statuses [] batch = refl
 planned_push statuses (first ∷ rest) batch =
     ap (λ (l : List Column). record { before = statuses; batch = first } ∷ l) (planned_push (changed (λ _. Updated) first statuses) rest batch)
 
--- nobody is down in the one who isn't in the other
+-- each host that is down in the one is down in the other
 pub record AreNoMoreDown (statuses others : List Status) : Type 0 where
   pub long : length statuses ≡ length others
   pub each : (host : ℕ) → bit (is_down (status_at statuses host)) ≤ bit (is_down (status_at others host))
@@ -151,7 +151,7 @@ bit_le b = omega arith
 pub not_more : (statuses : List Status) → AreNoMoreDown statuses statuses
 not_more statuses = record { long = refl; each = λ host. omega arith }
 
--- where statuses change in the same way, to one that is up or in both
+-- if statuses change in the same way, to one that is up or in both
 module _ (status : Status) (hosts : List ℕ) (statuses others : List Status) (less : AreNoMoreDown statuses others) where
   at : List Status → ℕ → Status
   at all host = status_at (changed (λ _. status) hosts all) host
@@ -194,7 +194,7 @@ module _ (status : Status) (hosts : List ℕ) (statuses others : List Status) (l
           let left = status_at-changed_past (λ _. status) hosts statuses host past in
           rw left (omega arith)
 
--- while a batch runs at most its own hosts are down, and who was before
+-- while a batch runs at most its own hosts are down, and those that were before
 module _ (statuses : List Status) (batch members : List ℕ) where
   own_bit : (b : Bool) (s : Status) → bit (is_down (cond b Running s)) ≤ bit (is_down s || b)
   own_bit true Idle = omega arith
@@ -244,7 +244,7 @@ module _ (fleet : FleetView) (statuses : List Status) (safe : IsSafe (groups_of 
   abbrev OneWithin : Column → Type 0
   OneWithin column = (group limit : ℕ) → group < length fleet.groups → get_or fleet.limits group None ≡ Some limit → down_in fleet column group ≤ limit
 
-  -- a batch that has room in statuses may run in others in which no more are down
+  -- a batch that has room with some statuses has room with others in which no more hosts are down
   fits_within : (others : List Status) (batch : List ℕ) → AreNoMoreDown others statuses → Fits (groups_of fleet) statuses batch → OneWithin (record { before = others; batch = batch })
   fits_within others batch less fits group limit within is =
       let members = list_at fleet.members group in

@@ -1,4 +1,4 @@
--- A terminal shows of a coloured table what the plain one is.
+-- A terminal shows the same characters for a colored table as for a plain one.
 use Rattle.std.proofs.Common.{ℕ, ◌+◌, ◌-◌, ◌==◌, Bool, true, false, List, ◌++◌, length, refl}
 use Rattle.std.specs.Prelude.{codes}
 use Rattle.std.specs.Int.{div_ceil}

@@ -11,7 +11,7 @@ use Rattle.domains.specs.Numbered.{host_at}
 use Rattle.occupancy_table.specs.Colours.{coloured, red_ends, shown, shown_from}
 use Rattle.occupancy_table.specs.TableText.{blanks}
 
--- a terminal shows the one text as the other, whatever comes behind it
+-- a terminal shows the one text as the other, whatever follows it
 pub record IsShownAs (text other : List ℕ) : Type 0 where
   pub goes_on : (rest : List ℕ) → shown (text ++ rest) ≡ other ++ shown rest
 
@@ -39,7 +39,7 @@ itself (byte ∷ text) has =
     let parts = and_parts (not (byte == 27)) (has_none text) has in
     record { goes_on = λ rest. byte_goes_on byte (text ++ rest) (byte == 27) refl parts.0 ∙ ap (λ l. byte ∷ l) ((itself text parts.1).goes_on rest) }
 
--- blanks, numbers, names
+-- spaces, numbers, names
 blanks_none : (count : ℕ) → has_none (blanks count) ≡ true
 blanks_none zero = refl
 blanks_none (suc count) = blanks_none count
@@ -92,7 +92,7 @@ shown_name names number plain = by_case (cases_lt number (length names))
         itself (host_at names number) (bytes_none (host_at names number) (and_parts _ (list_all is_name_byte (host_at names number)) is).1)
     by_case (inr past) = itself (host_at names number) (ap has_none (get_or_past names number [] past))
 
--- a colour isn't shown as bytes
+-- a color isn't shown as bytes
 pub shown_colour : {text other : List ℕ} (b : Bool) → IsShownAs text other → IsShownAs (coloured b text) other
 shown_colour {text} true is = record { goes_on = λ rest. ap shown (append_assoc text red_ends rest) ∙ is.goes_on (red_ends ++ rest) }
 shown_colour false is = is

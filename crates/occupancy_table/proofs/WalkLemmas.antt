@@ -1,4 +1,4 @@
--- What a walk over the tree of counts reads, node by node.
+-- What a traversal of the tree of counts reads, node by node.
 use Rattle.std.proofs.Common.{◌≡◌, ℕ, ◌+◌, ◌<◌, List, [], ◌∷◌, ◌++◌, length, map, get_or, take, sym, ap, ◌∙◌, refl, append_assoc}
 use Rattle.std.proofs.lemmas.List.{flat_map_more, map-append, take_more}
 use Rattle.batch_plan.specs.Nodes.{Node, Subtree, nodes_of, own_node, side_by_side, under}
@@ -13,7 +13,7 @@ module _ {X : Type 0} (read : Node → X) (steady : (top : ℕ) (node : Node) �
   side_more trees i d within =
       ap side_by_side (take_more trees i d within) ∙ sym (flat_map_more nodes_of [] (take i trees) (get_or trees i d))
 
-  -- one tree more, its own group first and then those below it
+  -- one more tree, its own group first and then those below it
   pub read_more : (trees : List Subtree) (i : ℕ) (tree : Subtree) → i < length trees → tree ≡ get_or trees i tree → (start before own after : List X)
       → before ≡ start ++ map read (side_by_side (take i trees)) → own ≡ before ++ read (own_node tree) ∷ [] → after ≡ own ++ map read tree.below
       → after ≡ start ++ map read (side_by_side (take (i + 1) trees))

@@ -9,12 +9,12 @@ use Rattle.fleet_states.specs.Statuses.{changed, down_count}
 use Rattle.batch_plan.specs.Counts.{limited_groups}
 use Rattle.occupancy_table.specs.declared.table.GroupTable.{GroupTable}
 
--- how all hosts stand before a batch, and the batch
+-- the statuses of all hosts before a batch, and the batch
 pub record Column : Type 0 where
   pub before : List Status
   pub batch : List ℕ
 
--- the statuses while the batch runs: its hosts are at work
+-- the statuses while the batch runs: its hosts are running
 abbrev pub at_work : Column → List Status
 at_work column = changed (λ _. Running) column.batch column.before
 
@@ -22,11 +22,11 @@ at_work column = changed (λ _. Running) column.batch column.before
 abbrev pub down_in : FleetView → Column → ℕ → ℕ
 down_in fleet column group = down_count (at_work column) (list_at fleet.members group)
 
--- the same of each limited group, in preorder
+-- likewise for each limited group, in preorder
 abbrev pub counts_in : FleetView → Column → List ℕ
 counts_in fleet column = map (down_in fleet column) (limited_groups fleet)
 
--- before any batch nobody is at work
+-- before any batch no host is running
 abbrev pub now : List Status → Column
 now statuses = record { before = statuses; batch = [] }
 
@@ -40,7 +40,7 @@ abbrev pub AreWithinLimits : FleetView → List Column → Type 0
 AreWithinLimits fleet columns =
     All (λ column. (group limit : ℕ) → group < length fleet.groups → slice_index_or fleet.limits group None ≡ Some limit → down_in fleet column group ≤ limit) columns
 
--- the counts of a table, a list a column
+-- the counts of a table, one list per column
 abbrev pub counts_of : GroupTable → List (List ℕ)
 counts_of table = map (λ column. column.items) table.columns.items
 

@@ -13,7 +13,8 @@ use Rattle.occupancy_table.specs.declared.color_mode.ColorMode.{ColorMode}
 use Rattle.occupancy_table.specs.Colours.{coloured, is_coloured}
 use Rattle.occupancy_table.specs.Columns.{counts_of}
 
--- what a table shows of a fleet: these groups, of which one may be marked, and of each column how many of their hosts are down, in the groups' order; and how it is painted
+-- what a table shows of a fleet: these groups, one of which may be marked; for each column how many of their hosts are down, in the groups'
+-- order; and its color mode
 pub record GridView : Type 0 where
   pub fleet : FleetView
   pub mark : Option ℕ
@@ -33,7 +34,7 @@ grid_of grid = record {
 abbrev pub group_at : GridView → ℕ → ℕ
 group_at grid row = slice_index_or grid.groups row 0
 
--- the limit of a group; 0 where it has none
+-- the limit of a group, or 0 if it has none
 abbrev pub limit_in : List (Option ℕ) → ℕ → ℕ
 limit_in limits group = unwrap_or (slice_index_or limits group None) 0
 
@@ -54,7 +55,7 @@ abbrev pub mark_text : Bool → List ℕ
 mark_text true = codes "*"
 mark_text false = []
 
--- the group's name, with a `*` where it is marked
+-- the group's name, with a `*` if it is marked
 abbrev pub name_text : GridView → ℕ → List ℕ
 name_text grid row = host_at grid.fleet.groups (group_at grid row) ++ mark_text (is_marked grid.mark (group_at grid row))
 
@@ -62,21 +63,21 @@ name_text grid row = host_at grid.fleet.groups (group_at grid row) ++ mark_text 
 abbrev pub cell_text : ℕ → ℕ → List ℕ
 cell_text down limit = decimal down ++ (codes "/" ++ decimal limit)
 
--- `now`, and behind it the numbers of the batches
+-- `now`, followed by the numbers of the batches
 abbrev pub column_head : ℕ → List ℕ
 column_head place = if place == 0 then codes "now" else decimal place
 
 abbrev pub blanks : ℕ → List ℕ
 blanks count = replicate count 32
 
--- a text at the left end of so many columns, and at the right end
+-- a text left-aligned in this many columns, and right-aligned
 abbrev pub leftwards : ℕ → List ℕ → List ℕ
 leftwards width text = text ++ blanks (width - length text)
 
 abbrev pub rightwards : ℕ → List ℕ → List ℕ
 rightwards width text = blanks (width - length text) ++ text
 
--- the greatest of what the numbers below `count` are given; 0 of none
+-- the largest value of the numbers below `count`, or 0 if there is none
 abbrev pub greatest : (ℕ → ℕ) → ℕ → ℕ
 greatest given count = fold (λ most number. max most (given number)) 0 (range_with_len 0 count)
 
@@ -87,7 +88,7 @@ cell_width grid place row = length (cell_text (count_at grid place row) (limit_a
 abbrev pub column_width : GridView → ℕ → ℕ
 column_width grid place = max (length (column_head place)) (greatest (cell_width grid place) (length grid.groups))
 
--- the widest name, the widest limit and the widest of all columns, so that all rows line up
+-- the widest name, the widest limit and the widest of all columns, so that all rows align
 abbrev pub widths_of : GridView → Widths
 widths_of grid = record {
   name = greatest (λ row. length (name_text grid row)) (length grid.groups);
@@ -95,7 +96,7 @@ widths_of grid = record {
   cell = greatest (column_width grid) (length grid.counts);
 }
 
--- what is written at each place of a span
+-- what is written for each index of a span
 abbrev pub span_text : (ℕ → List ℕ) → Span → List ℕ
 span_text piece span = flat_map (λ offset. piece (span.from + offset)) (range_with_len 0 span.count)
 
@@ -104,7 +105,7 @@ abbrev pub head_line : Widths → Span → List ℕ
 head_line widths span =
     blanks widths.name ++ (codes " " ++ (blanks widths.limit ++ (span_text (λ place. codes " " ++ rightwards widths.cell (column_head place)) span ++ codes "\n")))
 
--- a cell at the right end of so many columns, of which its colour takes none
+-- a cell right-aligned in this many columns; color codes don't count
 abbrev pub cell_in : ColorMode → ℕ → ℕ → ℕ → List ℕ
 cell_in paint width down limit = blanks (width - length (cell_text down limit)) ++ coloured (is_coloured paint down limit) (cell_text down limit)
 
@@ -121,15 +122,15 @@ row_line grid widths span row =
 abbrev pub rows_text : GridView → Widths → Span → List ℕ
 rows_text grid widths span = flat_map (row_line grid widths span) (range_with_len 0 (length grid.groups))
 
--- the heads of these columns, and a line a group
+-- the heads of these columns, and one line per group
 abbrev pub block_text : GridView → Widths → Span → List ℕ
 block_text grid widths span = head_line widths span ++ rows_text grid widths span
 
--- how many columns go side by side, so that no line has more than 100 characters; one goes in any case
+-- how many columns fit side by side in a line of 100 characters, at least one
 abbrev pub capacity : Widths → ℕ
 capacity widths = max 1 ((((100 - widths.name) - 1) - widths.limit) / (widths.cell + 1))
 
--- the columns of a block, where so many go side by side of so many
+-- the columns of a block, given how many fit side by side and how many there are
 abbrev pub span_at : ℕ → ℕ → ℕ → Span
 span_at side_by_side total block = record { from = block * side_by_side; count = min side_by_side (total - block * side_by_side) }
 
@@ -138,6 +139,6 @@ abbrev pub blocks_text : GridView → Widths → List ℕ
 blocks_text grid widths =
     flat_map (λ block. block_text grid widths (span_at (capacity widths) (length grid.counts) block)) (range_with_len 0 (div_ceil (length grid.counts) (capacity widths)))
 
--- the table, or that there is no row in it
+-- the table, or a note that it has no rows
 abbrev pub table_text : GridView → List ℕ
 table_text grid = if length grid.groups == 0 then codes "no limited group\n" else blocks_text grid (widths_of grid)

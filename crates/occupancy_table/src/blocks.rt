@@ -10,10 +10,10 @@ use crate::writing::write_block;
 use bounded_io::TextWriter;
 use std::io::Write;
 
-/// The most characters of a line, as long as one column fits into it.
+/// The most characters of a line, unless one column needs more.
 const LINE: usize = 100;
 
-/// How many columns go side by side.
+/// Returns how many columns fit side by side.
 fn capacity(widths: &Widths) -> usize
     requires small { widths.now.cell ≤ 81 }
     ensures capacity { result ≡ model.capacity widths.now }
@@ -40,8 +40,8 @@ fn write_blocks<W: Write>(text: &mut TextWriter<'_, W>, grid: &Grid<'_>, widths:
     }
 }
 
-/// Goes on with the table of a fleet's limited groups: a row for each, with its limit, and in each column how many of its hosts are down, of how many that may be. What is wider
-/// than a line goes on in a next block. It takes no memory.
+/// Appends the table of a fleet's limited groups. Each group has a row with its limit and, in each column, how many of its hosts are down
+/// of how many that may be. Columns that don't fit into a line are in a further block. Does not allocate.
 pub fn write_table<W: Write>(text: &mut TextWriter<'_, W>, grid: &Grid<'_>)
     ensures { Writes W.contents text.old text.new (table_text (grid_of grid.now)) }
 {

@@ -1,8 +1,8 @@
-//! Whether full groups are coloured.
+//! Whether groups at their limit are colored.
 ghost use Rattle.std.specs.Prelude.{◌≡◌};
 ghost use Rattle.occupancy_table.specs.Colours.{is_coloured};
 
-/// How a table is painted: not at all, or so that a terminal shows the cells of full groups in bold red.
+/// How a table is colored: not at all, or so that a terminal shows the cells of groups at their limit in bold red.
 #[derive(Clone, Copy, Debug, PartialEq, Eq)]
 pub enum ColorMode {
     Plain,
@@ -10,7 +10,7 @@ pub enum ColorMode {
 }
 
 impl ColorMode {
-    /// Whether a cell is coloured: where colours are wanted, that of a group of which no more hosts may go down.
+    /// Reports whether a cell is colored: colors are on, and no more hosts of its group may go down.
     pub(crate) fn colours(self, down: u64, limit: u64) -> bool
         ensures { result ≡ is_coloured self down limit }
     {

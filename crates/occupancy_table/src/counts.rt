@@ -36,7 +36,7 @@ fn append_down<A: Allocator>(
     Ok(())
 }
 
-/// The limited groups in preorder. Only want of memory refuses them.
+/// Returns the limited groups in preorder. Fails only if an allocation fails.
 pub(crate) fn list_groups<A: Allocator>(
     alloc: Global,
     domains: &Domains<'_, A>,
@@ -48,7 +48,7 @@ pub(crate) fn list_groups<A: Allocator>(
     Ok(groups)
 }
 
-/// How many hosts of each limited group are down, in preorder. Only want of memory refuses it.
+/// Returns how many hosts of each limited group are down, in preorder. Fails only if an allocation fails.
 pub(crate) fn list_down<A: Allocator>(
     alloc: Global,
     domains: &Domains<'_, A>,

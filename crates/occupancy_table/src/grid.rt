@@ -8,7 +8,7 @@ use crate::table::GroupTable;
 use domains::Fleet;
 use group_tree::GroupId;
 
-/// The table of a fleet, the group whose name is marked in it, and how it is painted.
+/// The table of a fleet, the group whose name is marked in it, and its color mode.
 #[derive(Clone, Copy)]
 pub struct Grid<'g> {
     pub fleet: &'g Fleet,
@@ -17,7 +17,7 @@ pub struct Grid<'g> {
     pub paint: ColorMode,
 }
 
-/// Columns that stand side by side: the first of them, and how many.
+/// Columns side by side: the first of them, and how many.
 #[derive(Clone, Copy, Debug)]
 pub(crate) struct Span {
     pub(crate) from: usize,
@@ -37,7 +37,7 @@ impl<'g> Grid<'g> {
         self.table.columns.len()
     }
 
-    /// The group of a row; past the end the first.
+    /// Returns the group of a row, or the first group past the end.
     pub(crate) fn group(&self, row: usize) -> GroupId
         ensures { result.index ≡ model.group_at (grid_of self.now) row }
     {
@@ -47,14 +47,14 @@ impl<'g> Grid<'g> {
         }
     }
 
-    /// The limit of a row's group.
+    /// Returns the limit of a row's group.
     pub(crate) fn limit(&self, row: usize) -> u64
         ensures { result ≡ model.limit_at (grid_of self.now) row }
     {
         limit_of(self.fleet, self.group(row))
     }
 
-    /// How many hosts of a row's group are down in a column.
+    /// Returns how many hosts of a row's group are down in a column.
     pub(crate) fn count(&self, place: usize, row: usize) -> u64
         ensures { result ≡ model.count_at (grid_of self.now) place row }
     {
@@ -64,7 +64,7 @@ impl<'g> Grid<'g> {
         }
     }
 
-    /// Whether the name of a row's group is marked.
+    /// Reports whether the name of a row's group is marked.
     pub(crate) fn is_marked(&self, row: usize) -> bool
         ensures { result ≡ model.is_marked (grid_of self.now).mark (model.group_at (grid_of self.now) row) }
     {
@@ -75,7 +75,7 @@ impl<'g> Grid<'g> {
     }
 }
 
-/// The group's limit; 0 where it has none.
+/// Returns the group's limit, or 0 if it has none.
 fn limit_of(fleet: &Fleet, group: GroupId) -> u64
     ensures { result ≡ model.limit_in fleet.now.limits group.index }
 {

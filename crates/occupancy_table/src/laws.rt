@@ -1,17 +1,17 @@
-//! What holds of every table.
+//! Properties of every table.
 ghost use Rattle.occupancy_table.specs.Laws.{ColoursChangeNoCell, FittingIsWithinLimits, PlansAreWithinLimits};
 
-/// In no column of a plan's table is a group over its limit, where none is before it.
+/// If no group exceeds its limit before a plan, none does in any column of the plan's table.
 pub fn plans_are_within_limits()
     ensures { PlansAreWithinLimits }
 {}
 
-/// Nor in the column of a batch that has room in each group, where none is over its limit before it.
+/// Likewise for the column of a batch that has room in each group.
 pub fn what_fits_is_within_limits()
     ensures { FittingIsWithinLimits }
 {}
 
-/// A terminal shows of a coloured table what the plain one is.
+/// A terminal shows the same characters for a colored table as for a plain one.
 pub fn colours_change_no_cell()
     ensures { ColoursChangeNoCell }
 {}

@@ -1,4 +1,4 @@
-//! Texts that take so many columns.
+//! Padded text.
 ghost use Rattle.std.specs.Prelude.{◌≡◌, ◌≤◌, ◌++◌, codes, decimal, length};
 ghost use Rattle.bounded_io.specs.Writing.{Writes};
 ghost use Rattle.occupancy_table.specs.Colours as colours;
@@ -9,13 +9,13 @@ use bounded_io::TextWriter;
 use itoa::Buffer;
 use std::io::Write;
 
-/// From here on a terminal shows bold red.
+/// Switches a terminal to bold red.
 const RED_BEGINS: &str = "\u{1b}[1;31m";
 
-/// And from here on no longer.
+/// Switches it back.
 const RED_ENDS: &str = "\u{1b}[0m";
 
-/// How many digits the number has.
+/// Returns how many digits the number has.
 pub(crate) fn digits(number: u64) -> usize
     ensures digits { result ≡ length (decimal number) }
     ensures small { result ≤ 40 }
@@ -23,7 +23,7 @@ pub(crate) fn digits(number: u64) -> usize
     Buffer::new().format(number).len()
 }
 
-/// How many characters a cell has.
+/// Returns how many characters a cell has.
 pub(crate) fn cell_length(down: u64, limit: u64) -> usize
     ensures length { result ≡ length (cell_text down limit) }
     ensures small { result ≤ 81 }
@@ -31,7 +31,7 @@ pub(crate) fn cell_length(down: u64, limit: u64) -> usize
     digits(down) + 1 + digits(limit)
 }
 
-/// How many characters a column's head has.
+/// Returns how many characters a column's head has.
 pub(crate) fn head_length(place: usize) -> usize
     ensures length { result ≡ length (column_head place) }
     ensures small { result ≤ 81 }
@@ -39,7 +39,7 @@ pub(crate) fn head_length(place: usize) -> usize
     if place == 0 { 3 } else { digits(place as u64) }
 }
 
-/// Goes on with so many blanks.
+/// Appends this many spaces.
 pub(crate) fn write_blanks<W: Write>(text: &mut TextWriter<'_, W>, count: usize)
     ensures { Writes W.contents text.old text.new (blanks count) }
 {
@@ -48,7 +48,7 @@ pub(crate) fn write_blanks<W: Write>(text: &mut TextWriter<'_, W>, count: usize)
     }
 }
 
-/// Goes on with the number at the right end of so many columns.
+/// Appends the number, right-aligned in this many columns.
 #[tactic(auto, using(bounded_io::proofs::Pieces::pieces_of_text))]
 pub(crate) fn write_number<W: Write>(text: &mut TextWriter<'_, W>, width: usize, number: u64)
     ensures { Writes W.contents text.old text.new (rightwards width (decimal number)) }
@@ -57,7 +57,7 @@ pub(crate) fn write_number<W: Write>(text: &mut TextWriter<'_, W>, width: usize,
     text.write_number(number);
 }
 
-/// Goes on with the word at the right end of so many columns.
+/// Appends the word, right-aligned in this many columns.
 #[tactic(auto, using(bounded_io::proofs::Pieces::pieces_of_text))]
 fn write_word<W: Write>(text: &mut TextWriter<'_, W>, width: usize, word: &str)
     ensures { Writes W.contents text.old text.new (rightwards width word.now) }
@@ -66,7 +66,7 @@ fn write_word<W: Write>(text: &mut TextWriter<'_, W>, width: usize, word: &str)
     text.write_str(word);
 }
 
-/// Goes on with a column's head at the right end of so many columns, behind a blank.
+/// Appends a space and a column's head, right-aligned in this many columns.
 #[tactic(auto, using(bounded_io::proofs::Pieces::pieces_of_text))]
 pub(crate) fn write_head<W: Write>(text: &mut TextWriter<'_, W>, width: usize, place: usize)
     ensures { Writes W.contents text.old text.new (codes " " ++ rightwards width (column_head place)) }
@@ -85,7 +85,7 @@ fn write_bare_head<W: Write>(text: &mut TextWriter<'_, W>, width: usize, place: 
     }
 }
 
-/// Goes on with a cell at the right end of so many columns, behind a blank. Its colour takes none of them.
+/// Appends a space and a cell, right-aligned in this many columns. Color codes don't count.
 #[tactic(auto, using(bounded_io::proofs::Pieces::pieces_of_text))]
 pub(crate) fn write_cell<W: Write>(
     text: &mut TextWriter<'_, W>,
@@ -101,7 +101,7 @@ pub(crate) fn write_cell<W: Write>(
     write_painted(text, paint.colours(down, limit), down, limit);
 }
 
-/// Goes on with a cell in bold red, or as it is.
+/// Appends a cell, in bold red or plain.
 #[tactic(auto, using(bounded_io::proofs::Pieces::pieces_of_text))]
 fn write_painted<W: Write>(text: &mut TextWriter<'_, W>, is_coloured: bool, down: u64, limit: u64)
     ensures { Writes W.contents text.old text.new (colours.coloured is_coloured (cell_text down limit)) }
@@ -124,7 +124,7 @@ fn write_bare_cell<W: Write>(text: &mut TextWriter<'_, W>, down: u64, limit: u64
     text.write_number(limit);
 }
 
-/// Goes on with the word at the left end of so many columns, with a mark behind it where it has one.
+/// Appends the word, left-aligned in this many columns, followed by its mark if it has one.
 #[tactic(auto, using(bounded_io::proofs::Pieces::pieces_of_text))]
 pub(crate) fn write_left<W: Write>(
     text: &mut TextWriter<'_, W>,

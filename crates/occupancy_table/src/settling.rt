@@ -1,4 +1,4 @@
-//! Hosts take a status, and are counted by it.
+//! Setting the statuses of hosts, and counting them.
 ghost use Rattle.std.specs.Prelude.{◌≡◌, slice_set};
 ghost use Rattle.domains.specs.Ids.{host_numbers};
 ghost use Rattle.fleet_states.specs.Statuses.{changed};
@@ -9,7 +9,7 @@ use fleet_states::Status;
 use group_tree::HostId;
 use std::alloc::Allocator;
 
-/// Gives the host this status, and counts it so; a number that no host has is passed over.
+/// Sets the status of the host, and counts it accordingly; ignores a number that no host has.
 fn settle_one<A: Allocator>(
     domains: &mut Domains<'_, A>,
     statuses: &mut [Status],
@@ -27,7 +27,7 @@ fn settle_one<A: Allocator>(
     }
 }
 
-/// Gives these hosts this status, and counts them so.
+/// Sets the status of these hosts, and counts them accordingly.
 pub(crate) fn settle<A: Allocator>(
     domains: &mut Domains<'_, A>,
     statuses: &mut [Status],

@@ -15,14 +15,14 @@ use fleet_states::Status;
 use group_tree::{GroupId, HostId};
 use std::alloc::{AllocError, Allocator, Global};
 
-/// The limited groups in preorder, and of each column how many hosts of each are down, in the same order.
+/// The limited groups in preorder, and for each column how many hosts of each are down, in the same order.
 #[derive(Debug, Drop)]
 pub struct GroupTable {
     pub groups: Vec<GroupId>,
     pub columns: Vec<Vec<usize>>,
 }
 
-/// How many hosts of each limited group are down while this batch runs. The counts are left as they are then.
+/// Returns how many hosts of each limited group are down while this batch runs, and leaves the counts as they are then.
 fn run_batch<A: Allocator>(
     alloc: Global,
     domains: &mut Domains<'_, A>,
@@ -40,7 +40,7 @@ fn run_batch<A: Allocator>(
 }
 
 impl GroupTable {
-    /// The table whose one column says how the hosts stand. Only want of memory refuses it.
+    /// Returns the table with one column, for the current counts. Fails only if an allocation fails.
     fn from_counts<A: Allocator>(
         alloc: Global,
         domains: &Domains<'_, A>,
@@ -56,7 +56,7 @@ impl GroupTable {
         Ok(GroupTable { groups, columns })
     }
 
-    /// The table whose one column says how the hosts stand, before any batch. Only want of memory refuses it.
+    /// Returns the table with one column, for the hosts before any batch. Fails only if an allocation fails.
     pub fn new(alloc: Global, fleet: &Fleet, statuses: &[Status]) -> Result<GroupTable, AllocError>
         requires all { length statuses.now ≡ length fleet.now.hosts }
         ensures { IfOk result (IsTableOf fleet.now (model.now statuses.now ∷ [])) }
@@ -65,7 +65,7 @@ impl GroupTable {
         GroupTable::from_counts(alloc, &domains, statuses)
     }
 
-    /// Adds the column of this batch, before which the hosts stand so. Want of memory leaves the table as it was.
+    /// Adds the column of this batch, before which the hosts have these statuses. If an allocation fails, leaves the table unchanged.
     pub fn add(
         &mut self,
         alloc: Global,
@@ -86,7 +86,8 @@ impl GroupTable {
     }
 }
 
-/// Adds a column for each of these batches, each of which is updated before the next one runs: at each step a host more or less is counted in its own groups alone.
+/// Adds a column for each of these batches, each of which is updated before the next one runs. A host that changes is counted only in its
+/// own groups.
 fn append_batches<A: Allocator>(
     alloc: Global,
     domains: &mut Domains<'_, A>,
@@ -107,7 +108,7 @@ fn append_batches<A: Allocator>(
     Ok(())
 }
 
-/// The table of a plan before which the hosts stand so: how they stand, and then each batch. Only want of memory refuses it.
+/// Returns the table of a plan: a column for the hosts' statuses before it, and one for each batch. Fails only if an allocation fails.
 pub fn tabulate_plan(
     alloc: Global,
     fleet: &Fleet,

@@ -1,4 +1,4 @@
-//! How wide the columns of a table are.
+//! The widths of a table's columns.
 ghost use Rattle.std.specs.Prelude.{◌≡◌, ◌≤◌, decimal, length};
 ghost use Rattle.occupancy_table.specs.TableText as model;
 ghost use Rattle.occupancy_table.specs.TableText.{greatest, grid_of, limit_at, mark_text, name_text, widths_of};
@@ -7,7 +7,7 @@ use crate::grid::Grid;
 use crate::padding::{cell_length, digits, head_length};
 use recap::group_name;
 
-/// How many characters the names take, the limits, and each column of cells.
+/// The widths of the names, of the limits, and of each column of cells.
 #[derive(Clone, Copy, Debug)]
 pub(crate) struct Widths {
     pub(crate) name: usize,
@@ -15,14 +15,14 @@ pub(crate) struct Widths {
     pub(crate) cell: usize,
 }
 
-/// What stands behind a name.
+/// Returns what follows a name.
 pub(crate) fn mark_of(is_marked: bool) -> &'static str
     ensures { result.now ≡ mark_text is_marked }
 {
     if is_marked { "*" } else { "" }
 }
 
-/// How many characters the name of a row's group has, with its mark.
+/// Returns how many characters the name of a row's group has, including its mark.
 fn name_length(grid: &Grid<'_>, row: usize) -> usize
     ensures { result ≡ length (name_text (grid_of grid.now) row) }
 {
@@ -49,7 +49,7 @@ fn widest_limit(grid: &Grid<'_>) -> usize
     widest
 }
 
-/// How many characters a cell of the table has.
+/// Returns how many characters a cell of the table has.
 fn cell_width(grid: &Grid<'_>, place: usize, row: usize) -> usize
     ensures width { result ≡ model.cell_width (grid_of grid.now) place row }
     ensures small { result ≤ 81 }
@@ -86,7 +86,7 @@ fn widest_column(grid: &Grid<'_>) -> usize
     widest
 }
 
-/// The widths with which all rows line up.
+/// Returns the widths with which all rows align.
 pub(crate) fn measure(grid: &Grid<'_>) -> Widths
     ensures widths { result ≡ widths_of (grid_of grid.now) }
     ensures small { result.cell ≤ 81 }

@@ -16,7 +16,7 @@ use Rattle.batch_plan.specs.Holding.{set_aside}
 use Rattle.batch_plan.proofs.UniqueLemmas.{one_answer}
 use Rattle.play_forecast.specs.PlayPlans.{IsPlanOf, aside_at_start, aside_by, first_cap, first_statuses, targets}
 
--- two plays have the same pattern, the same sizes of batches, and the same way with hosts that may not go down
+-- two plays have the same pattern, the same batch sizes, and the same setting for hosts that may not go down
 pub record AreAlike (play other : Play) : Type 0 where
   pub pattern : string_bytes play.pattern ≡ string_bytes other.pattern
   pub sizes : play.sizes.items ≡ other.sizes.items

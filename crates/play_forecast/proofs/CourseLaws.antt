@@ -1,4 +1,4 @@
--- The plays of a file have one list of courses; and what hosts outside the batches would have done doesn't matter.
+-- The plays of a file have one list of forecasts, which does not depend on hosts outside the batches.
 use Rattle.std.proofs.Common.{◌≡◌, ℕ, ◌+◌, ◌==◌, Option, Some, None, List, [], ◌∷◌, length, refl, sym, ap, ◌∙◌, subst}
 use Rattle.std.specs.Prelude.{if◌then◌else◌, is_some}
 use Rattle.fleet_states.specs.declared.status.Status.{Status}
@@ -27,7 +27,7 @@ none_more [] [] one two = tt
 none_more (x ∷ xs) others one two = absurd (cc)
 none_more [] (y ∷ ys) one two = absurd (cc)
 
--- what follows two courses with the same end
+-- what follows two forecasts with the same end
 same_rest : (end other : End) (rest others : List Course) (On Too : Type 0) → end ≡ other → (On → Too → AreSameCourses rest others)
     → GoesOn end rest On → GoesOn other others Too → AreSameCourses rest others
 same_rest end other rest others On Too is same one two = by_end end (subst (λ e. GoesOn e others Too) (sym is) two) one

@@ -1,4 +1,4 @@
--- No host stands in the batches of two boundaries.
+-- No host appears in the batches of two boundaries.
 use Rattle.std.proofs.Common.{◌≡◌, ℕ, zero, suc, ◌+◌, ◌≤◌, ◌<◌, Bool, true, false, cond, Option, Some, None, List, [], ◌∷◌, length, refl, sym, ap, ◌∙◌, subst, inl, inr, ◌⊎◌}
 use Rattle.std.proofs.lemmas.Bool.{both_ways, cases_Bool, cases_lt, false_from_ne_true}
 use Rattle.fleet_index.specs.NumberLists.{has_number, list_at}
@@ -22,7 +22,7 @@ use Rattle.play_forecast.specs.declared.end.End.{End}
 use Rattle.play_forecast.specs.Courses.{Continues, Goes, IsBoundary, Setting, end_behind, end_here, halt_of, led_to, next_batch, statuses_behind}
 use Rattle.play_forecast.specs.Laws.{OpenedOnce, opened_batches}
 
--- who doesn't wait doesn't wait once hosts are set aside
+-- a host that doesn't wait still doesn't once hosts are held
 aside_waits_not : (hosts : List ℕ) (statuses : List Status) (host : ℕ) → is_waiting (status_at statuses host) ≡ false → is_waiting (status_at (set_aside hosts statuses) host) ≡ false
 aside_waits_not hosts statuses host not = by_case (cases_lt host (length statuses))
   where
@@ -56,7 +56,7 @@ module _ (setting : Setting) (opened : ℕ) (statuses : List Status) (boundary :
   abbrev batch : List ℕ
   batch = next_batch boundary.answer
 
-  -- who doesn't wait when a boundary begins doesn't wait at it, isn't opened there, and doesn't wait behind it
+  -- a host that doesn't wait before a boundary doesn't wait at it, isn't opened there, and doesn't wait after it
   waits_not : is_waiting (status_at statuses host) ≡ false → is_waiting (status_at boundary.statuses.items host) ≡ false
   waits_not not =
       ap (λ s. is_waiting (status_at s host)) is.statuses_are ∙ aside_waits_not (aside_by setting.mode setting.fleet statuses) statuses host not
@@ -72,7 +72,7 @@ module _ (setting : Setting) (opened : ℕ) (statuses : List Status) (boundary :
   still_waits_not not =
       ap is_waiting (others_stay (halt_of setting batch) setting.fails batch boundary.statuses.items host (not_opened not)) ∙ waits_not not
 
--- whoever doesn't wait is opened nowhere from there on
+-- a host that doesn't wait is never opened from there on
 never_opened : (setting : Setting) (opened : ℕ) (statuses : List Status) (before : Option End) (boundaries : List Boundary) (end : Option End) (host place : ℕ)
     → Continues setting opened statuses before boundaries end → is_waiting (status_at statuses host) ≡ false → has_number host (list_at (opened_batches boundaries) place) ≡ false
 never_opened setting opened statuses before [] end host place is not = refl
@@ -92,7 +92,7 @@ never_opened setting opened statuses before (b ∷ bs) end host (suc place) is n
     behind later (Some here) goes = none bs goes.0
     behind later None goes = later goes
 
--- nor is who was opened before
+-- nor is a host that was opened before
 not_again : (setting : Setting) (opened : ℕ) (statuses : List Status) (before : Option End) (b : Boundary) (bs : List Boundary) (end : Option End) (host place : ℕ)
     → Continues setting opened statuses before (b ∷ bs) end → has_number host (next_batch b.answer) ≡ true → has_number host (list_at (opened_batches bs) place) ≡ false
 not_again setting opened statuses before b bs end host place is here = behind (end_here before b) is.1
@@ -145,7 +145,7 @@ never_waits setting opened statuses before (b ∷ bs) host is not =
     behind later (Some last) goes = absurd (cc)
     behind later None goes = later goes
 
--- who was opened waits nowhere behind
+-- a host that was opened never waits afterwards
 pub opened_before : (setting : Setting) (opened : ℕ) (statuses : List Status) (before : Option End) (boundaries : List Boundary) (host place : ℕ) → Continues setting opened statuses before boundaries None
     → has_number host (list_at (opened_batches boundaries) place) ≡ true → is_waiting (status_at (led_to setting statuses boundaries) host) ≡ false
 opened_before setting opened statuses before [] host place is here = absurd (cc)

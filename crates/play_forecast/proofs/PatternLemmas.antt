@@ -1,4 +1,4 @@
--- The first part that names nothing, of patterns one after the other.
+-- The first part that matches nothing, over patterns in sequence.
 use Rattle.std.proofs.Common.{◌≡◌, ℕ, ◌+◌, ◌<◌, Bool, Option, None, Some, List, [], ◌∷◌, ◌++◌, length, flat_map, get_or, take, drop, drop-cons, add-one, sym, ap, ◌∙◌}
 use Rattle.std.specs.List.{find}
 use Rattle.std.specs.Option.{option_or}
@@ -29,7 +29,7 @@ module _ {X Y : Type 0} (p : Y → Bool) (parts : X → List Y) (xs : List X) (i
       ∙ find-append p (flat_map parts (take i xs)) (flat_map parts (x ∷ rest)) ∙ ap (λ (o : Option Y). option_or o (find p (flat_map parts (x ∷ rest)))) before
       ∙ ap (find p) (flat_map-cons parts x rest) ∙ find-append p (parts x) (flat_map parts rest) ∙ ap (λ (o : Option Y). option_or o (find p (flat_map parts rest))) some
 
--- a fault of one is that of all, where those before it have none
+-- an error of one pattern is that of all, if those before it have none
 pub fault_here : {X : Type 0} (fleet : FleetView) (parts : X → List Name) (xs : List X) (i : ℕ) (x : X) → x ≡ get_or xs i x → i < length xs
     → find (names_nothing fleet) (flat_map parts (take i xs)) ≡ None → (fault : PatternFault) → IsPatternFault fleet (parts x) fault → IsPatternFault fleet (flat_map parts xs) fault
 fault_here fleet parts xs i x is within before (NoSuchName name) some =

@@ -1,4 +1,4 @@
--- Where no host fails a play opens as many batches as its first plan has.
+-- If no host fails, a play opens as many batches as its first plan has.
 use Rattle.std.proofs.Common.{◌≡◌, ℕ, zero, suc, ◌+◌, ◌<◌, ◌==◌, Option, Some, None, List, [], ◌∷◌, length, refl, sym, ap, ◌∙◌, subst, arith}
 use Rattle.std.proofs.lemmas.Bool.{ne_eqb}
 use Rattle.std.specs.Prelude.{if◌then◌else◌, min, is_some, slice_get, option_and_then}
@@ -54,14 +54,14 @@ module _ (setting : Setting) (most : Option ℕ) (one : (opened : ℕ) → setti
       ap (λ h. statuses_after h setting.fails (next_batch b.answer) b.statuses.items) ((updated (next_batch b.answer)).never_halts setting.percentage setting.steps)
       ∙ (updated (next_batch b.answer)).updated b.statuses.items
 
-  -- where there is a plan no host is set aside
+  -- if there is a plan, no host is held
   nobody_aside : (mode : OnBlocked) (statuses : List Status) (batches : List (List ℕ)) → IsPlan (groups_of setting.fleet) statuses most batches
       → set_aside (aside_by mode setting.fleet statuses) statuses ≡ statuses
   nobody_aside Stop statuses batches plan = changed_none (λ _. Held) statuses
   nobody_aside Hold statuses batches plan =
       ap (λ hosts. set_aside hosts statuses) (plans_hold_nobody setting.fleet statuses most batches plan) ∙ changed_none (λ _. Held) statuses
 
-  -- the plan of the boundary behind a batch has one batch less
+  -- the plan of the boundary after a batch has one batch fewer
   one_less : (opened : ℕ) (b c : Boundary) (batch : List ℕ) (rest : List (List ℕ)) (forced : Bound) → next_batch b.answer ≡ batch
       → IsLeastPlan (groups_of setting.fleet) b.statuses.items most (batch ∷ rest) forced → IsBoundary setting opened (statuses_behind setting b) c → HasBatches (length rest) c.answer
   one_less opened b c batch rest forced is least next =

@@ -1,4 +1,4 @@
--- A play has one course.
+-- A play has one forecast.
 use Rattle.std.proofs.Common.{◌≡◌, ℕ, ◌+◌, ◌≤◌, ◌==◌, Option, Some, None, List, [], ◌∷◌, ◌++◌, length, refl, sym, ap, ◌∙◌, subst, arith}
 use Rattle.std.proofs.lemmas.Option.{same_Some}
 use Rattle.std.specs.Prelude.{if◌then◌else◌}
@@ -78,7 +78,7 @@ none_before [] others none = tt
 none_before (b ∷ bs) [] none = tt
 none_before (b ∷ bs) (c ∷ cs) none = absurd (cc)
 
--- two lists of boundaries that begin with the same one
+-- two lists of boundaries that start with the same one
 module _ (setting : Setting) (opened : ℕ) (b c : Boundary) (bs cs : List Boundary) (end other : Option End) (same : IsSameBoundary b c) where
   abbrev FromFirst : List Boundary → Option End → Type 0
   FromFirst rest last = Continues setting (opened + 1) (statuses_behind setting b) (end_behind setting b) rest last
@@ -91,7 +91,7 @@ module _ (setting : Setting) (opened : ℕ) (b c : Boundary) (bs cs : List Bound
       subst (λ s. Continues setting (opened + 1) s (end_behind setting b) cs other) (sym (same_behind setting b c same))
       (subst (λ e. Continues setting (opened + 1) (statuses_behind setting c) e cs other) (sym (same_end_behind setting b c same)) goes)
 
-  -- what holds where both end here, and where both go on
+  -- what holds if both end here, and if both continue
   alike : (P : Type 0) → ((here : End) → bs ≡ [] → cs ≡ [] → end ≡ Some here → other ≡ Some here → P) → (FromFirst bs end → FromFirst cs other → P)
       → (x y : Option End) → x ≡ y → Goes x bs end (FromFirst bs end) → Goes y cs other (FromOther cs other) → P
   alike P ends later (Some here) (Some there) same one two = ends here one.0 two.0 one.1 (two.1 ∙ ap Some (sym (same_Some _ _ same)))
@@ -142,7 +142,7 @@ no_longer setting opened statuses before (b ∷ bs) (c ∷ cs) end other is too 
 pub end_is_last : EndIsFinal
 end_is_last setting statuses boundaries others end other is too = no_longer setting 0 statuses None boundaries others end other is too
 
--- a boundary more
+-- one more boundary
 one_more : (setting : Setting) (opened : ℕ) (statuses : List Status) (before : Option End) (boundaries : List Boundary) (boundary : Boundary) → Continues setting opened statuses before boundaries None
     → IsBoundary setting (opened + length boundaries) (led_to setting statuses boundaries) boundary
     → Continues setting opened statuses before (boundaries ++ boundary ∷ []) (end_here (ended_by setting before boundaries) boundary)
@@ -166,7 +166,7 @@ one_more setting opened statuses before (b ∷ bs) boundary is next = (
 pub one_boundary_more : OneBoundaryMore
 one_boundary_more setting statuses boundaries boundary is next = one_more setting 0 statuses None boundaries boundary is (subst (λ n. IsBoundary setting n (led_to setting statuses boundaries) boundary) (omega arith) next)
 
--- a boundary less
+-- one boundary fewer
 one_less : (setting : Setting) (opened : ℕ) (statuses : List Status) (before : Option End) (boundaries : List Boundary) (boundary : Boundary) (end : Option End)
     → Continues setting opened statuses before (boundaries ++ boundary ∷ []) end → Continues setting opened statuses before boundaries None
 one_less setting opened statuses before [] boundary end is = refl
@@ -184,7 +184,7 @@ one_less setting opened statuses before (b ∷ bs) boundary end is =
 pub went_on : ContinuedBeforeLast
 went_on setting statuses boundaries boundary end is = one_less setting 0 statuses None boundaries boundary end is
 
--- where boundaries lead is where the last one does
+-- boundaries lead to where the last one does
 pub led_to-push : (setting : Setting) (statuses : List Status) (boundaries : List Boundary) (boundary : Boundary) → led_to setting statuses (boundaries ++ boundary ∷ []) ≡ statuses_behind setting boundary
 led_to-push setting statuses [] boundary = refl
 led_to-push setting statuses (b ∷ bs) boundary = led_to-push setting (statuses_behind setting b) bs boundary

@@ -1,4 +1,4 @@
--- What holds of every course.
+-- Properties of every forecast.
 use Rattle.std.specs.Prelude.{◌≡◌, ◌≤◌, ℕ, true, Option, None, Some, List, [], ◌∷◌, ◌++◌, map, length}
 use Rattle.fleet_index.specs.NumberLists.{has_number, list_at}
 use Rattle.domains.specs.Ids.{host_numbers}
@@ -13,7 +13,7 @@ use Rattle.play_forecast.specs.declared.end.End.{End}
 use Rattle.play_forecast.specs.Courses.{IsBoundary, IsCourse, Setting, end_here, ended_by, led_to, next_batch}
 use Rattle.play_forecast.specs.Files.{AreCourses, Course, PlaySetting}
 
--- the same hosts set aside, the same statuses, and the same answer
+-- the same held hosts, the same statuses, and the same answer
 pub record IsSameBoundary (boundary other : Boundary) : Type 0 where
   pub held : host_numbers boundary.held.items ≡ host_numbers other.held.items
   pub statuses : boundary.statuses.items ≡ other.statuses.items
@@ -25,7 +25,7 @@ AreSameBoundaries [] (other ∷ others) = ⊥
 AreSameBoundaries (boundary ∷ boundaries) [] = ⊥
 AreSameBoundaries (boundary ∷ boundaries) (other ∷ others) = IsSameBoundary boundary other × AreSameBoundaries boundaries others
 
--- a play that has come to its end has one course
+-- a play that has ended has one forecast
 abbrev pub OneCourse : Type 0
 OneCourse =
     (setting : Setting) (statuses : List Status) (boundaries others : List Boundary) (end other : End)
@@ -37,26 +37,26 @@ AreSameSoFar [] others = Unit {0}
 AreSameSoFar (boundary ∷ boundaries) [] = Unit {0}
 AreSameSoFar (boundary ∷ boundaries) (other ∷ others) = IsSameBoundary boundary other × AreSameSoFar boundaries others
 
--- and each play goes the same way as far as it has come
+-- each play follows the same forecast as far as it has come
 abbrev pub PrefixesAgree : Type 0
 PrefixesAgree =
     (setting : Setting) (statuses : List Status) (boundaries others : List Boundary) (end other : Option End)
     → IsCourse setting statuses boundaries end → IsCourse setting statuses others other → AreSameSoFar boundaries others
 
--- where a play has come to its end it has all its boundaries
+-- a play that has ended has all its boundaries
 abbrev pub EndIsFinal : Type 0
 EndIsFinal =
     (setting : Setting) (statuses : List Status) (boundaries others : List Boundary) (end : Option End) (other : End)
     → IsCourse setting statuses boundaries end → IsCourse setting statuses others (Some other) → length boundaries ≤ length others
 
--- a play comes to its next boundary, and ends there or goes on
+-- a play reaches its next boundary, and ends there or continues
 abbrev pub OneBoundaryMore : Type 0
 OneBoundaryMore =
     (setting : Setting) (statuses : List Status) (boundaries : List Boundary) (boundary : Boundary) → IsCourse setting statuses boundaries None
     → IsBoundary setting (length boundaries) (led_to setting statuses boundaries) boundary
     → IsCourse setting statuses (boundaries ++ boundary ∷ []) (end_here (ended_by setting None boundaries) boundary)
 
--- before its last boundary a play went on
+-- a play continued at every boundary before its last
 abbrev pub ContinuedBeforeLast : Type 0
 ContinuedBeforeLast =
     (setting : Setting) (statuses : List Status) (boundaries : List Boundary) (boundary : Boundary) (end : Option End) → IsCourse setting statuses (boundaries ++ boundary ∷ []) end
@@ -69,34 +69,34 @@ AreSameCourses (course ∷ courses) [] = ⊥
 AreSameCourses (course ∷ courses) (other ∷ others) =
     AreSameBoundaries course.boundaries other.boundaries × (course.end ≡ other.end) × AreSameCourses courses others
 
--- a file of plays has one list of courses
+-- a file of plays has one list of forecasts
 abbrev pub OneFileCourse : Type 0
 OneFileCourse =
     (first : Setting) (plays : List PlaySetting) (statuses : List Status) (courses others : List Course)
     → AreCourses first plays statuses courses → AreCourses first plays statuses others → AreSameCourses courses others
 
--- the batches that are opened, one a boundary
+-- the batches that are opened, one per boundary
 abbrev pub opened_batches : List Boundary → List (List ℕ)
 opened_batches boundaries = map (λ boundary. next_batch boundary.answer) boundaries
 
--- no host stands in the batches of two boundaries
+-- no host appears in the batches of two boundaries
 abbrev pub OpenedOnce : Type 0
 OpenedOnce =
     (setting : Setting) (statuses : List Status) (boundaries : List Boundary) (end : Option End) → IsCourse setting statuses boundaries end
     → (host first second : ℕ) → has_number host (list_at (opened_batches boundaries) first) ≡ true
     → has_number host (list_at (opened_batches boundaries) second) ≡ true → first ≡ second
 
--- the same play, in which other steps fail
+-- the same play with other failing steps
 abbrev pub with_fails : Fails → Setting → Setting
 with_fails fails setting = record setting { fails = fails }
 
--- the failing steps agree on the hosts of each batch behind which a boundary follows
+-- the failing steps agree on the hosts of each batch that a boundary follows
 abbrev pub AgreeOnEach : Fails → Fails → List Boundary → Type 0
 AgreeOnEach fails others [] = Unit {0}
 AgreeOnEach fails others (boundary ∷ []) = Unit {0}
 AgreeOnEach fails others (boundary ∷ next ∷ rest) = AgreeOn (next_batch boundary.answer) fails others × AgreeOnEach fails others (next ∷ rest)
 
--- a course is as it is whatever would have failed on hosts whose batch is not behind it
+-- a forecast does not depend on failures of hosts whose batch has not ended
 abbrev pub OthersDecideNothing : Type 0
 OthersDecideNothing =
     (setting : Setting) (others : Fails) (statuses : List Status) (boundaries : List Boundary) (end : Option End) → IsCourse setting statuses boundaries end
@@ -111,7 +111,7 @@ abbrev pub AreAsPlanned : List Boundary → Type 0
 AreAsPlanned [] = ⊥
 AreAsPlanned (boundary ∷ rest) = IsFollowedByAll boundary.answer rest
 
--- where no host fails and all batches have one size, there are as many batches as the first plan has
+-- if no host fails and all batches have one size, there are as many batches as the first plan has
 abbrev pub AsManyAsPlanned : Type 0
 AsManyAsPlanned =
     (setting : Setting) (most : Option ℕ) (statuses : List Status) (boundaries : List Boundary) (end : End) → ((opened : ℕ) → setting.caps opened ≡ most)

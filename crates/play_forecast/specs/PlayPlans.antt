@@ -1,4 +1,4 @@
--- The plan with which a play begins.
+-- The plan with which a play starts.
 use Rattle.std.specs.Prelude.{◌≡◌, ℕ, Option, List, [], length, flat_map, string_bytes}
 use Rattle.text_syntax.specs.Patterns.{parts_of}
 use Rattle.group_tree.specs.Names.{Name}
@@ -18,7 +18,7 @@ use Rattle.batch_plan.specs.Holding.{held_hosts, set_aside}
 abbrev pub parts_of_play : Play → List Name
 parts_of_play play = parts_of (string_bytes play.pattern)
 
--- those of several plays, in their order
+-- those of several plays, in order
 abbrev pub named_parts : List Play → List Name
 named_parts plays = flat_map parts_of_play plays
 
@@ -26,16 +26,16 @@ named_parts plays = flat_map parts_of_play plays
 abbrev pub targets : FleetView → Play → List ℕ
 targets fleet play = named_hosts fleet (parts_of_play play)
 
--- where hosts that may not go down are not to stop the play, they are set aside
+-- the hosts to hold, if the play holds hosts instead of stopping
 abbrev pub aside_by : OnBlocked → FleetView → List Status → List ℕ
 aside_by Stop fleet statuses = []
 aside_by Hold fleet statuses = held_hosts fleet statuses
 
--- the hosts that are set aside before the play's first batch
+-- the hosts that are held before the play's first batch
 abbrev pub aside_at_start : FleetView → Play → List ℕ
 aside_at_start fleet play = aside_by play.on_blocked fleet (start_statuses fleet (targets fleet play))
 
--- the statuses before its first batch: as a run for its hosts begins, once these hosts are set aside
+-- the statuses before its first batch: those at the start of a run for its hosts, with these hosts held
 abbrev pub first_statuses : FleetView → Play → List Status
 first_statuses fleet play = set_aside (aside_at_start fleet play) (start_statuses fleet (targets fleet play))
 
@@ -43,7 +43,7 @@ first_statuses fleet play = set_aside (aside_at_start fleet play) (start_statuse
 abbrev pub first_cap : FleetView → Play → Option ℕ
 first_cap fleet play = cap play.sizes.items (length (targets fleet play)) 0
 
--- the answer of the rule by which hosts are dealt, with the fewest batches, or the group that blocks every plan
+-- the answer of the dealing rule, with the fewest batches, or the group that blocks every plan
 pub record IsPlanOf (fleet : FleetView) (play : Play) (answer : Answer) (held : List ℕ) : Type 0 where
   pub held_are : held ≡ aside_at_start fleet play
   pub best : IsBest fleet (first_statuses fleet play) (first_cap fleet play) answer

@@ -1,4 +1,4 @@
-//! Who is set aside, where the counts of the fleet stand.
+//! Which hosts are held, given the current counts of the fleet.
 ghost use Rattle.std.specs.Prelude.{◌≡◌, IfOk};
 ghost use Rattle.domains.specs.Ids.{host_numbers};
 ghost use Rattle.batch_plan.specs.Places.{AreCountsOf};
@@ -9,8 +9,8 @@ use group_tree::HostId;
 use play_model::OnBlocked;
 use std::alloc::{AllocError, Allocator, Global};
 
-/// The hosts that are set aside, by name, where they are not to stop the play. Nobody is counted anew. Only want of memory
-/// refuses it.
+/// Returns the hosts to hold, by name, if the play holds hosts instead of stopping. Does not recount the fleet. Fails only if an allocation
+/// fails.
 pub fn list_aside_over<A: Allocator>(
     alloc: Global,
     domains: &Domains<'_, A>,

@@ -1,4 +1,4 @@
-//! A moment at which no batch is open.
+//! A point at which no batch is open.
 ghost use Rattle.std.specs.Prelude.{◌≡◌, ◌<◌, IfOk, IfSome, length};
 ghost use Rattle.std.specs.List.{list_any};
 ghost use Rattle.domains.specs.Ids.{host_numbers};
@@ -15,7 +15,7 @@ use group_tree::HostId;
 use play_model::OnBlocked;
 use std::alloc::{AllocError, Allocator, Global};
 
-/// A moment at which no batch is open: the hosts that were set aside at it, by name, the status of each host then, and the planner's answer.
+/// A point at which no batch is open: the hosts held there, by name, each host's status, and the planner's answer.
 #[derive(Debug, Drop)]
 pub struct Boundary {
     pub held: Vec<HostId>,
@@ -24,8 +24,8 @@ pub struct Boundary {
 }
 
 impl Boundary {
-    /// Plans for the hosts that wait once these were set aside: the statuses are those behind that, and their counts stand. Only want of
-    /// memory refuses it.
+    /// Plans for the waiting hosts after these were held. `statuses` are those after that, and `domains` has their counts. Fails only if an
+    /// allocation fails.
     pub fn planned<A: Allocator>(
         alloc: Global,
         domains: &Domains<'_, A>,
@@ -49,8 +49,8 @@ impl Boundary {
         })
     }
 
-    /// The boundary to which these statuses lead: hosts are set aside where they are not to stop the play, and the rest is planned anew. Only
-    /// want of memory refuses it.
+    /// Returns the boundary these statuses lead to. Holds hosts if the play holds them instead of stopping, and plans again for the rest.
+    /// Fails only if an allocation fails.
     pub fn from_statuses(
         alloc: Global,
         fleet: &Fleet,
@@ -72,7 +72,7 @@ impl Boundary {
         })
     }
 
-    /// The batch that is opened: the first one of the plan, and nobody where there is none.
+    /// Returns the batch to open: the first of the plan, or no hosts if there is none.
     pub fn next_batch(&self) -> &[HostId]
         ensures { host_numbers result.now ≡ model.next_batch self.now.answer }
     {
@@ -82,7 +82,7 @@ impl Boundary {
         }
     }
 
-    /// How a play ends here where no batch can be opened: a group blocks every plan, or nobody waits.
+    /// Returns how a play ends here if no batch can be opened: a group blocks every plan, or no host waits.
     pub fn end_without_batch(&self) -> Option<End>
         ensures { result ≡ model.end_without_batch self.now.statuses.items self.now.answer }
     {
@@ -96,7 +96,7 @@ impl Boundary {
     }
 }
 
-/// Whether the host is set aside.
+/// Reports whether the host is held.
 fn is_held(status: Status) -> bool
     ensures { result ≡ model.is_held status }
 {
@@ -106,14 +106,14 @@ fn is_held(status: Status) -> bool
     }
 }
 
-/// Whether any of these is set aside.
+/// Reports whether any of these is held.
 fn any_held(statuses: &[Status]) -> bool
     ensures { result ≡ list_any (λ status. model.is_held status) statuses.now }
 {
     statuses.iter().any(|status| is_held(*status))
 }
 
-/// How a play ends where nobody waits.
+/// Returns how a play ends if no host waits.
 fn end_at_rest(statuses: &[Status]) -> End
     ensures { result ≡ model.end_at_rest statuses.now }
 {

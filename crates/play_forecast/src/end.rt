@@ -7,15 +7,15 @@ use group_tree::GroupId;
 /// How a play ends.
 #[derive(Clone, Copy, Debug, PartialEq, Eq)]
 pub enum End {
-    /// Nobody waits any more.
+    /// No host waits any more.
     Finished,
-    /// Nobody waits any more, and hosts were set aside.
+    /// No host waits any more, and hosts were held.
     Held,
-    /// Hosts of this group wait, and none of its hosts may go down.
+    /// Hosts of this group wait, and none of the group's hosts may go down.
     Blocked {
         group: GroupId,
     },
-    /// So many hosts of a batch of this size had failed by this step, counted from 1, which is more than the play allows.
+    /// More hosts of a batch have failed by this step, counted from 1, than the play allows.
     TooManyFailed {
         step: usize,
         failed: usize,
@@ -25,8 +25,8 @@ pub enum End {
     AllFailed,
 }
 
-/// How a play ends with a batch that halted at this step, counted from 0, or at none, and of which so many hosts failed: too many
-/// of them, or all.
+/// Returns the end a batch causes, if it does: too many of its hosts failed, or all. The batch has `size` hosts, `failed` of which failed.
+/// It halted at step `halt`, counted from 0, or at none.
 pub fn end_with(halt: Option<usize>, failed: usize, size: usize) -> Option<End>
     requires { IfSome halt (λ step. step + 1 < 2 ^ 64) }
     ensures { result ≡ model.end_with halt failed size }

@@ -8,7 +8,7 @@ use domains::{Fleet, PatternFault};
 use play_model::Play;
 use std::alloc::Global;
 
-/// Looks up the parts of one play's pattern.
+/// Resolves the parts of one play's pattern.
 fn look_up(alloc: Global, fleet: &Fleet, play: &Play) -> Result<(), PatternFault>
     ensures known { OnOk result (find (names_nothing fleet.now) (parts_of_play play.now) ≡ None) }
     ensures err { IfErr result (IsPatternFault fleet.now (parts_of_play play.now)) }
@@ -17,8 +17,7 @@ fn look_up(alloc: Global, fleet: &Fleet, play: &Play) -> Result<(), PatternFault
     Ok(())
 }
 
-/// Looks up the parts of all patterns in their order. The first that names nothing refuses them; otherwise only want of
-/// memory does.
+/// Resolves the parts of all patterns in order. Fails at the first part that matches nothing, or if an allocation fails.
 pub fn look_up_all(alloc: Global, fleet: &Fleet, plays: &[Play]) -> Result<(), PatternFault>
     ensures known { OnOk result (find (names_nothing fleet.now) (named_parts plays.now) ≡ None) }
     ensures err { IfErr result (IsPatternFault fleet.now (named_parts plays.now)) }

@@ -1,4 +1,4 @@
-//! A play's hosts, who of them is set aside, and the plan for the others.
+//! A play's hosts, which of them are held, and the plan for the others.
 ghost use Rattle.std.specs.Prelude.{◌≡◌, ◌≤◌, IfErr, IfOk, OnOk, None, length};
 ghost use Rattle.std.specs.List.{find};
 ghost use Rattle.domains.specs.Ids.{host_numbers};
@@ -11,14 +11,14 @@ use group_tree::HostId;
 use play_model::{OnBlocked, Play};
 use std::alloc::{AllocError, Global};
 
-/// What a play begins with: the hosts that were set aside, by name, and the planner's answer for the others.
+/// What a play starts with: the hosts that were held, by name, and the planner's answer for the others.
 #[derive(Debug, Drop)]
 pub struct PlayPlan {
     pub held: Vec<HostId>,
     pub answer: Answer,
 }
 
-/// The hosts that are set aside, by name, where they are not to stop the play. Only want of memory refuses it.
+/// Returns the hosts to hold, by name, if the play holds hosts instead of stopping. Fails only if an allocation fails.
 pub fn list_aside(
     alloc: Global,
     fleet: &Fleet,
@@ -34,7 +34,7 @@ pub fn list_aside(
     }
 }
 
-/// How many hosts these are. A fleet has so few that the number fits.
+/// Returns the number of these hosts. A fleet is small enough for it to fit.
 fn count(fleet: &Fleet, hosts: &[HostId]) -> u32
     requires { length hosts.now ≤ length fleet.now.hosts }
     ensures { result ≡ length hosts.now }
@@ -42,9 +42,8 @@ fn count(fleet: &Fleet, hosts: &[HostId]) -> u32
     hosts.len().min(fleet.hosts()) as u32
 }
 
-/// The plan for the hosts of the play's pattern, before its first batch: where the play holds hosts in place of stopping,
-/// those that a group without room holds are set aside first. The first part of the pattern that names nothing refuses it;
-/// otherwise only want of memory does.
+/// Returns the plan for the hosts of the play's pattern, before its first batch. If the play holds hosts instead of stopping, it first
+/// holds those in a group without room. Fails at the first part of the pattern that matches nothing, or if an allocation fails.
 pub fn plan_play(alloc: Global, fleet: &Fleet, play: &Play) -> Result<PlayPlan, PatternFault>
     ensures ok { IfOk result (λ planned. IsPlanOf fleet.now play.now planned.answer (host_numbers planned.held.items)) }
     ensures known { OnOk result (find (names_nothing fleet.now) (parts_of_play play.now) ≡ None) }

@@ -1,4 +1,4 @@
--- The results of a host that begins a play.
+-- The results of a host that starts a play.
 use Rattle.std.proofs.Common.{◌≡◌, ℕ, ◌<◌, ◌+◌, Bool, true, false, ◌||◌, cond, Option, Some, None, is_some, List, [], ◌∷◌, length, get_or, take, replicate, map, string_bytes, String, refl, sym, ap, ◌∙◌}
 use Rattle.std.specs.List.{slice_get, position, list_any}
 use Rattle.std.specs.Map.{lookup}
@@ -15,7 +15,7 @@ use Rattle.play_model.specs.Results.{shared_number, result_of}
 use Rattle.play_model.proofs.ListLemmas.{at_replicate, is_found, found_within}
 use Rattle.play_model.proofs.PlaceLemmas.{result}
 
--- a place without a result for each key that passes, by its number
+-- an empty slot for each key that passes, by number
 module _ {K : Type 0} (test : K → Bool) (keys : List K) where
   abbrev empty : List (Option Registered)
   empty = replicate (length keys) None
@@ -28,7 +28,7 @@ module _ {K : Type 0} (test : K → Bool) (keys : List K) where
   free_place rows is =
       ap (λ (r : List (Option Registered)). option_and_then (slice_get r) (position test keys)) is ∙ free (position test keys) refl ∙ ap (λ (b : Bool). cond b (Some None) None) (is_found test keys)
 
--- a key that is not there has no value
+-- a key that is missing has no value
 module _ {K V : Type 0} (test : K → Bool) where
   abbrev stands : List (K × V) → Bool
   stands entries = list_any test (map (λ (e : K × V). e.0) entries)
@@ -41,7 +41,7 @@ module _ {K V : Type 0} (test : K → Bool) where
       by_case true gone rest = absurd (cc)
       by_case false gone rest = rest gone
 
--- behind the places of the registers no name has one of its own
+-- a name has no slot of its own next to the slots of the registers
 pub free_alone : (first second : Option (Option Registered)) (b : Bool) → first ≡ cond b (Some None) None → second ≡ None → option_or first second ≡ cond b (Some None) None
 free_alone first second true is none = ap (λ place. option_or place second) is
 free_alone first second false is none = ap (λ place. option_or place second) is ∙ none
@@ -57,7 +57,7 @@ pub free_result : (b : Bool) → result (cond b (Some None) None) ≡ None
 free_result true = refl
 free_result false = refl
 
--- who has taken what stands under the shared names and under those of its own has taken all
+-- copying what is under the shared names and under the host's own names copies everything
 pub all_taken : (results : Results) (name : Name) → cond (stands_in name (map (λ e. e.0) results.own.entries) || (is_some (shared_number results name) || false)) (result_of results name) None ≡ result_of results name
 all_taken results name =
     by_case (stands_in name (map (λ e. e.0) results.own.entries)) (shared_number results name) refl refl
@@ -77,11 +77,11 @@ same_name-sym x y = by_case (bytes_eq x y) (bytes_eq y x) refl refl
     by_case true false e f = sym ((bytes_eq-Decides y x).1 (sym ((bytes_eq-Decides x y).0 e))) ∙ f
     by_case false true e f = sym e ∙ (bytes_eq-Decides x y).1 (sym ((bytes_eq-Decides y x).0 f))
 
--- the name stands among the first of these, or it is taken already
+-- the name is among the first of these, or copied already
 abbrev is_among_first : {Y : Type 0} → List (String Y) → ℕ → Name → Bool → Bool
 is_among_first names count other taken = stands_in other (take count names) || taken
 
--- one name more
+-- one more name
 pub name_more : {Y : Type 0} (names : List (String Y)) (i : ℕ) (text : String Y) (name other : Name) (taken : Bool) → i < length names
     → text ≡ get_or names i text → name ≡ string_bytes text → (bytes_eq name other || is_among_first names i other taken) ≡ is_among_first names (i + 1) other taken
 name_more {Y = Y} names i text name other taken within is called =

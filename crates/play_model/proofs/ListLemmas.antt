@@ -1,4 +1,4 @@
--- Items at their places, and the first place that passes a test.
+-- Items by index, and the first index that passes a test.
 use Rattle.std.proofs.Common.{◌≡◌, ◌≢◌, ℕ, zero, suc, ◌<◌, nat_lt, Bool, true, false, cond, Some, None, is_some, List, [], ◌∷◌, length, set, replicate, refl, ap, ◌∙◌, arith}
 use Rattle.std.proofs.lemmas.Grind.{common_steps}
 use Rattle.std.specs.List.{slice_get, position, position_or_len, list_any}
@@ -32,7 +32,7 @@ module _ {X : Type 0} where
         by_case true e rest = grind (arith, common_steps)
         by_case false e rest = grind (arith, common_steps)
 
-    -- a place passes exactly where an item does
+    -- an index passes exactly if an item does
     pub is_found : (xs : List X) → is_some (position test xs) ≡ list_any test xs
     is_found xs = by_case (nat_lt (position_or_len test xs) (length xs)) refl ∙ first_within xs
       where

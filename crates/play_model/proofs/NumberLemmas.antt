@@ -13,7 +13,7 @@ use Rattle.play_model.specs.Results.{shared_number}
 use Rattle.play_model.specs.declared.registers.Registers.{Registers}
 use Rattle.play_model.specs.declared.results.Results.{Results}
 
--- no two names have one number
+-- no two names have the same number
 one_name : {Y : Type 0} (keys : List (String Y)) (a b : Name) (number : ℕ) → position (λ key. bytes_eq a (string_bytes key)) keys ≡ Some number → position (λ key. bytes_eq b (string_bytes key)) keys ≡ Some number → a ≡ b
 one_name [] a b number first second = absurd (cc)
 one_name (key ∷ keys) a b number first second =

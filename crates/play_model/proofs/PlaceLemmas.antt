@@ -1,4 +1,4 @@
--- What a write at one name makes of all names.
+-- The effect of a write at one name on all names.
 use Rattle.std.proofs.Common.{◌≡◌, ℕ, ◌<◌, Bool, true, false, ◌||◌, cond, Option, Some, None, is_some, List, length, set, refl, sym, ap, ◌∙◌}
 use Rattle.std.specs.List.{slice_get}
 use Rattle.std.specs.Option.{option_map, option_and_then, option_or}
@@ -15,7 +15,7 @@ Places = Name → Option (Option Registered)
 abbrev pub result : Option (Option Registered) → Option Row
 result place = option_and_then (λ (held : Option Registered). option_map row_of held) place
 
--- the new places are the old ones, and at this name the value
+-- the new slots are the old ones, except for the value at this name
 abbrev pub SetsAt : Places → Places → Name → Option Registered → Type 0
 SetsAt old new name value = (other : Name) → new other ≡ cond (bytes_eq name other) (Some value) (old other)
 
@@ -23,7 +23,7 @@ none_there : (place : Option (Option Registered)) → is_some place ≡ false �
 none_there (Some held) e = absurd (cc)
 none_there None e = refl
 
--- a place without a result for a name that has none, behind places that stay
+-- an empty slot for a name that has none, next to slots that stay
 module _ (before old new : Places) (name : Name) (sets : SetsAt old new name None) where
   pub place_more : (other : Name) → is_some (option_or (before other) (new other)) ≡ (bytes_eq name other || is_some (option_or (before other) (old other)))
   place_more other = by_case (before other) (bytes_eq name other) (sets other)
@@ -48,7 +48,7 @@ module _ (before old new : Places) (name : Name) (sets : SetsAt old new name Non
           alone (Some held) second gone = absurd (cc)
           alone None second gone = gone
 
--- a result at the name's number, where no other name has that number
+-- a result at the name's number, if no other name has that number
 module _ (numbers : Name → Option ℕ) (rows : List (Option Registered)) (own : Places) (name : Name) (number : ℕ) (registered : Registered) where
   abbrev held : List (Option Registered) → Name → Option (Option Registered)
   held items other = option_or (option_and_then (slice_get items) (numbers other)) (own other)

@@ -1,4 +1,4 @@
--- Words one behind the other: one more at the end.
+-- Concatenated arguments: one more at the end.
 use Rattle.std.proofs.Common.{◌≡◌, ℕ, ◌<◌, ◌≤◌, List, [], ◌∷◌, ◌++◌, length, sym, ap, ◌∙◌, subst, arith, inl, inr, ◌⊎◌}
 use Rattle.std.specs.Str.{IsUtf8, IsCharBoundary}
 use Rattle.std.proofs.lemmas.Bool.{cases_lt}
@@ -8,13 +8,13 @@ use Rattle.fleet_index.specs.Runs.{end_at, runs}
 use Rattle.fleet_index.proofs.RunLemmas.{added}
 use Rattle.play_model.specs.Words.{AreWords}
 
--- a place where a text may be cut stays one with more behind it
+-- where a string can be split, it still can be after more is appended
 cut_still : (bytes more : List ℕ) (place : ℕ) → IsUtf8 bytes → IsUtf8 more → IsCharBoundary bytes place → IsCharBoundary (bytes ++ more) place
 cut_still bytes more place utf8 utf8_more cut =
     IsCharBoundary-from_take (bytes ++ more) place (IsUtf8-append bytes more utf8 utf8_more) (omega (arith, cut.0, length-append bytes more))
     (subst IsUtf8 (sym (take-append-le place bytes more cut.0)) (IsUtf8-take bytes place utf8 cut))
 
--- each end, that of the new word too, is such a place
+-- each end, including that of the new argument, is such a position
 module _ (bytes more ends new_ends : List ℕ) (further : new_ends ≡ ends ++ length (bytes ++ more) ∷ []) where
   cut_one_more : IsUtf8 bytes → IsUtf8 more → ((place : ℕ) → place < length ends → IsCharBoundary bytes (end_at ends place)) → (place : ℕ)
       → (place < length ends) ⊎ (length ends ≤ place) → place < length new_ends → IsCharBoundary (bytes ++ more) (end_at new_ends place)
@@ -27,7 +27,7 @@ module _ (bytes more ends new_ends : List ℕ) (further : new_ends ≡ ends ++ l
       (sym (ap (λ (list : List ℕ). end_at list place) further ∙ get_or_push ends (length (bytes ++ more)) 0 place (omega (arith, l, m, ap length further, length_push ends (length (bytes ++ more))))))
       (IsCharBoundary-end (bytes ++ more))
 
--- what a push needs: the list with one more, and the invariant
+-- the requirements of a push: the list with one more, and the invariant
 pub one_more : (bytes more ends new_bytes new_ends : List ℕ) (shown : List (List ℕ)) (last : ℕ) → IsUtf8 bytes → IsUtf8 more
     → AreWords bytes ends → runs bytes ends ≡ shown
     → new_bytes ≡ bytes ++ more → new_ends ≡ ends ++ last ∷ [] → last ≡ length new_bytes

@@ -1,4 +1,4 @@
--- The names under which the steps of a play register results, by their numbers.
+-- The names under which the steps of a play register results, by number.
 use Rattle.std.specs.Prelude.{ℕ, Bool, Option, List, String, position, string_bytes}
 use Rattle.std.specs.List.{list_any}
 use Rattle.group_tree.specs.Names.{Name, same_name}
@@ -7,7 +7,7 @@ use Rattle.play_model.specs.declared.registers.Registers.{Registers}
 abbrev pub number_in : Registers → Name → Option ℕ
 number_in registers name = position (λ key. same_name name (string_bytes key)) registers.names.keys
 
--- the name is one of these texts
+-- the name is one of these strings
 abbrev pub stands_in : {Y : Type 0} → Name → List (String Y) → Bool
 stands_in name texts = list_any (λ text. same_name name (string_bytes text)) texts
 

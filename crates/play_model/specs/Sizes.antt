@@ -1,9 +1,9 @@
--- How many hosts a batch may have.
+-- The maximum size of a batch.
 use Rattle.std.specs.Prelude.{ℕ, ◌-◌, ◌*◌, ◌/◌, ◌==◌, max, min, Option, Some, None, option_and_then, List, length, slice_get, if◌then◌else◌}
 use Rattle.play_model.specs.declared.size.Size.{Size}
 use Rattle.play_model.specs.declared.size.Size.TheVariants.{Count, Percent}
 
--- 0 is no bound
+-- 0 means no bound
 abbrev pub count_bound : ℕ → Option ℕ
 count_bound hosts = if hosts == 0 then None else Some hosts
 
@@ -12,7 +12,7 @@ abbrev pub bound : Size → ℕ → Option ℕ
 bound (Count hosts) targeted = count_bound hosts
 bound (Percent share) targeted = Some (max 1 (share * targeted / 100))
 
--- the entry for the batch before which so many were opened; the last one serves on
+-- the entry for the batch after `opened` others; the last entry applies to all further batches
 abbrev pub entry_in_force : List Size → ℕ → Option Size
 entry_in_force sizes opened = slice_get sizes (min (length sizes - 1) opened)
 

@@ -1,4 +1,4 @@
-//! The results of a host that begins a play.
+//! The results of a host at the start of a play.
 ghost use Rattle.std.specs.Prelude.{◌≡◌, ◌||◌, Bool, IfOk, IsTrue, None, OnOk, cond, is_some, replicate};
 ghost use Rattle.std.specs.Arc.{arc_value};
 ghost use Rattle.group_tree.specs.Names.{Name, same_name};
@@ -13,8 +13,8 @@ use std::alloc::{AllocError, Global};
 use std::sync::Arc;
 
 impl Results {
-    /// Those of a host that begins a play with these registers: a copy of each result, and a place for each register, under names that
-    /// are shared and not copied. It fails for want of memory alone.
+    /// Returns the results of a host that starts a play with these registers. It has a copy of each result and a slot
+    /// for each register, whose names are shared and not copied. Fails only if an allocation fails.
     pub fn begin_play(
         &self,
         alloc: Global,
@@ -29,7 +29,8 @@ impl Results {
         Ok(copy)
     }
 
-    /// The same results. Places without a result are kept only for the registers of its play. It fails for want of memory alone.
+    /// Copies the results. Empty slots are copied only for the registers of its play. Fails only if an allocation
+    /// fails.
     pub fn copy(&self, alloc: Global) -> Result<Results, AllocError>
         ensures results { IfOk result (λ copy. (name : Name) → result_of copy name ≡ result_of self.now name) }
         ensures places { IfOk result (λ copy. (name : Name) → IsTrue (is_some (shared_number self.now name)) → IsTrue (has_place copy name)) }
@@ -43,7 +44,7 @@ impl Results {
         }
     }
 
-    /// The names that the hosts of its play share.
+    /// Returns the names that the hosts of its play share.
     fn shared_names(&self) -> &[String]
         ensures { (name : Name) → stands_in name result.now ≡ is_some (shared_number self.now name) }
     {
@@ -53,7 +54,7 @@ impl Results {
         }
     }
 
-    /// A place for each of the registers, and no result.
+    /// Creates a slot for each of the registers, and no result.
     fn without_results(alloc: Global, registers: &Arc<Registers>) -> Result<Results, AllocError>
         ensures places { IfOk result (λ results. (name : Name) → has_place results name ≡ is_register (arc_value registers.now) name) }
         ensures results { IfOk result (λ results. (name : Name) → result_of results name ≡ None) }
@@ -67,7 +68,7 @@ impl Results {
         })
     }
 
-    /// Copies of the results that the other has under these names.
+    /// Copies the results that the other has under these names.
     fn take_all(
         &mut self,
         alloc: Global,
@@ -86,7 +87,7 @@ impl Results {
         Ok(())
     }
 
-    /// A copy of the result that the other has under the name, if there is one.
+    /// Copies the result that the other has under the name, if there is one.
     fn take(&mut self, alloc: Global, name: &str, from: &Results) -> Result<(), AllocError>
         ensures places { OnOk result ((other : Name) → IsTrue (has_place self.old other) → IsTrue (has_place self.new other)) }
         ensures results { (taken : Name → Bool)
@@ -104,7 +105,7 @@ impl Results {
     }
 }
 
-/// So many places without a result.
+/// Returns `count` empty slots.
 fn empty_rows(alloc: Global, count: usize) -> Result<Vec<Option<Registered>>, AllocError>
     ensures { IfOk result (λ rows. rows.items ≡ replicate count None) }
 {

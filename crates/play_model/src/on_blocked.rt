@@ -1,9 +1,9 @@
-//! What a run does where hosts wait and none of them may go down.
+//! What a run does if hosts wait and none of them can go down.
 
 #[derive(Clone, Copy, Debug, PartialEq, Eq)]
 pub enum OnBlocked {
-    /// The run ends there.
+    /// The run ends.
     Stop,
-    /// The hosts that may not go down are set aside, and the run goes on with the others.
+    /// The hosts that can't go down are held, and the run continues with the others.
     Hold,
 }

@@ -9,14 +9,14 @@ use crate::step::Step;
 use group_tree::Percentage;
 use std::alloc::AllocError;
 
-/// The most steps that a play has, handlers included.
+/// The maximum number of steps of a play, including handlers.
 pub const STEPS_BOUND: usize = 256;
 
-/// The most entries that a play's `serial` has.
+/// The maximum number of entries of a play's `serial`.
 pub const SIZES_BOUND: usize = 64;
 
-/// A play has 1 to 256 steps, its tasks and then its handlers, and at least one task. Each handler that a task notifies is
-/// one of the play's, and handlers notify nobody. In no word an opening brace begins anything but a hole.
+/// A play has 1 to 256 steps: its tasks, of which there is at least one, and then its handlers. A task notifies only
+/// handlers of its play, and handlers notify none. In every argument, each opening brace starts a placeholder.
 #[derive(Drop)]
 pub struct Play {
     pattern: String,
@@ -29,8 +29,8 @@ pub struct Play {
 }
 
 impl Play {
-    /// The play of these parts; its steps are the tasks and then the handlers. Without sizes its batches have no bound.
-    /// It fails for want of memory alone.
+    /// Creates a play of these parts; its steps are the tasks and then the handlers. Without sizes, its batches have
+    /// no bound. Fails only if an allocation fails.
     #[tactic(auto, using(crate::proofs::Soundness::sound_of))]
     pub fn new(
         pattern: String,
@@ -68,14 +68,14 @@ impl Play {
         })
     }
 
-    /// The hosts and groups that the play is for.
+    /// Returns the pattern of the hosts and groups that the play targets.
     pub fn pattern(&self) -> &str
         ensures { result.now ≡ string_bytes self.now.pattern }
     {
         self.pattern.as_str()
     }
 
-    /// How many hosts its batches may have, in the order of the batches; the last entry serves on.
+    /// Returns the maximum sizes of its batches, in order; the last entry applies to all further batches.
     pub fn sizes(&self) -> &[Size]
         ensures value { result.now ≡ self.now.sizes.items }
         ensures sound { IsSound self.now.sizes.items self.now.steps.items self.now.tasks }
@@ -83,7 +83,7 @@ impl Play {
         self.sizes.as_slice()
     }
 
-    /// Past so many failed hosts of each hundred of a batch the play ends.
+    /// Returns the percentage of failed hosts in a batch above which the play ends.
     pub fn max_fail(&self) -> Option<Percentage>
         ensures { result ≡ self.now.max_fail }
     {
@@ -96,7 +96,7 @@ impl Play {
         self.on_blocked
     }
 
-    /// The tasks and then the handlers.
+    /// Returns the tasks and then the handlers.
     pub fn steps(&self) -> &[Step]
         ensures value { result.now ≡ self.now.steps.items }
         ensures sound { IsSound self.now.sizes.items self.now.steps.items self.now.tasks }
@@ -104,7 +104,7 @@ impl Play {
         self.steps.as_slice()
     }
 
-    /// How many of the steps are tasks.
+    /// Returns how many of the steps are tasks.
     pub fn tasks(&self) -> usize
         ensures value { result ≡ self.now.tasks }
         ensures sound { IsSound self.now.sizes.items self.now.steps.items self.now.tasks }
@@ -112,8 +112,8 @@ impl Play {
         self.tasks
     }
 
-    /// How many hosts the next batch may have, where the play targets so many hosts and has opened so many batches
-    /// before; nothing where there is no bound. It takes no memory.
+    /// Returns the maximum size of the next batch, if the play targets `targeted` hosts and has already opened
+    /// `opened` batches. Returns `None` if there is no bound. Does not allocate.
     pub fn cap(&self, targeted: u32, opened: u32) -> Option<u32>
         ensures number { result ≡ spec.cap self.now.sizes.items targeted opened }
         ensures some { IfSome result (λ hosts. 1 ≤ hosts) }

@@ -7,7 +7,7 @@ use std::alloc::{AllocError, Global};
 /// The result of a step on a host.
 #[derive(Debug, Drop)]
 pub struct Registered {
-    /// The return code, where a program ended.
+    /// The return code, if a program ended.
     pub rc: Option<i32>,
     pub stdout: String,
     pub stderr: String,
@@ -17,7 +17,7 @@ pub struct Registered {
 }
 
 impl Registered {
-    /// The same result.
+    /// Copies the result.
     pub fn copy(&self, alloc: Global) -> Result<Registered, AllocError>
         ensures { IfOk result (λ copy. row_of copy ≡ row_of self.now) }
     {

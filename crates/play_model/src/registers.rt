@@ -6,14 +6,14 @@ ghost use Rattle.play_model.specs.Registers.{number_in, is_register};
 use indexmap::IndexSet;
 use std::alloc::{AllocError, Global};
 
-/// Names, each once, with their numbers from 0. The hosts of a play share them, and keep no copies of these names.
+/// Names, each once, with their numbers from 0. The hosts of a play share them instead of copying them.
 #[derive(Drop)]
 pub struct Registers {
     names: IndexSet<String>,
 }
 
 impl Registers {
-    /// No name. It takes no memory.
+    /// Creates an empty set of names. Does not allocate.
     pub fn new(alloc: Global) -> Registers
         ensures { (name : Name) → is_register result name ≡ false }
     {
@@ -22,7 +22,7 @@ impl Registers {
         }
     }
 
-    /// Adds a name that isn't there. Where memory is refused, the names stay as they were.
+    /// Adds a name if it is new. If an allocation fails, the names stay as they were.
     pub fn add(&mut self, alloc: Global, name: &str) -> Result<(), AllocError>
         ensures added { OnOk result ((other : Name) → is_register self.new other
             ≡ (same_name name.now other || is_register self.old other)) }
@@ -33,14 +33,14 @@ impl Registers {
         Ok(())
     }
 
-    /// The number of the name.
+    /// Returns the number of the name.
     pub(crate) fn number(&self, name: &str) -> Option<usize>
         ensures { result ≡ number_in self.now name.now }
     {
         self.names.get_index_of(name)
     }
 
-    /// The names in the order of their numbers.
+    /// Returns the names in the order of their numbers.
     pub(crate) fn names(&self) -> &[String]
         ensures { result.now ≡ self.now.names.keys }
     {

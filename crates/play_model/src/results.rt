@@ -1,4 +1,4 @@
-//! Names with a place for a result.
+//! Names with a slot for a result.
 ghost use Rattle.std.specs.Prelude.{◌≡◌, ◌<◌, IsTrue, IfNone, IfSome, OnErr, OnOk, Some, cond, ◌||◌, is_some, length, option_copied, option_map, None, false};
 ghost use Rattle.std.specs.HashMap.{get_by_text};
 ghost use Rattle.group_tree.specs.Names.{Name, same_name};
@@ -10,8 +10,9 @@ use indexmap::IndexMap;
 use std::alloc::{AllocError, Global};
 use std::sync::Arc;
 
-/// A place for each register of the host's play and for each other name that was reserved; a place without a result counts as no
-/// result. The places of registers stand by the numbers that the hosts of the play share: no table of this host is touched to find one.
+/// A slot for each register of the host's play and for each other reserved name; an empty slot counts as no result.
+/// Slots of registers are indexed by numbers that the hosts of the play share, so finding one uses no table of this
+/// host.
 #[derive(Drop)]
 pub struct Results {
     pub(crate) registers: Option<Arc<Registers>>,
@@ -20,7 +21,7 @@ pub struct Results {
 }
 
 impl Results {
-    /// Of a host that hasn't begun a play.
+    /// Creates the results of a host that has not started a play.
     pub fn new(alloc: Global) -> Results
         ensures places { (name : Name) → has_place result name ≡ false }
         ensures results { (name : Name) → result_of result name ≡ None }
@@ -32,15 +33,15 @@ impl Results {
         }
     }
 
-    /// Whether the name has a place, with a result or without one.
+    /// Returns whether the name has a slot, empty or not.
     pub fn is_reserved(&self, name: &str) -> bool
         ensures { result ≡ has_place self.now name.now }
     {
         self.place(name).is_some()
     }
 
-    /// Makes a place for a name that has none, so that registering takes no memory. No result is changed, and where memory
-    /// is refused, no place is made or lost.
+    /// Creates a slot for a name that has none, so that registering does not allocate. No result changes. If an
+    /// allocation fails, no slot is created or lost.
     pub fn reserve(&mut self, alloc: Global, name: &str) -> Result<(), AllocError>
         ensures place { OnOk result ((other : Name) → has_place self.new other
             ≡ (same_name name.now other || has_place self.old other)) }
@@ -55,7 +56,7 @@ impl Results {
         Ok(())
     }
 
-    /// Registers a result under a name that has a place, in place of one that stood there. It takes no memory.
+    /// Registers a result under a name that has a slot, and replaces an earlier one. Does not allocate.
     pub fn register(&mut self, name: &str, registered: Registered)
         requires { IsTrue (has_place self.old name.now) }
         ensures place { (other : Name) → has_place self.new other ≡ has_place self.old other }
@@ -68,7 +69,7 @@ impl Results {
         }
     }
 
-    /// The result that is registered under the name.
+    /// Returns the result registered under the name.
     pub fn get(&self, name: &str) -> Option<&Registered>
         ensures { option_map (λ registered. row_of registered.now) result ≡ result_of self.now name.now }
     {
@@ -78,7 +79,7 @@ impl Results {
         }
     }
 
-    /// The place of the name.
+    /// Returns the slot of the name.
     fn place(&self, name: &str) -> Option<&Option<Registered>>
         ensures { option_copied result ≡ held_at self.now name.now }
     {
@@ -88,7 +89,7 @@ impl Results {
         }
     }
 
-    /// The number of the name, where a place stands at it.
+    /// Returns the number of the name, if it has a slot.
     fn number(&self, name: &str) -> Option<usize>
         ensures within { IfSome result (λ number. number < length self.now.rows.items) }
         ensures number { IfSome result (λ number. shared_number self.now name.now ≡ Some number) }
@@ -105,7 +106,7 @@ impl Results {
     }
 }
 
-/// Puts a result where a place stands.
+/// Puts a result into an existing slot.
 fn set(own: &mut IndexMap<String, Option<Registered>>, name: &str, registered: Registered)
     requires { IsTrue (is_some (get_by_text own.old name.now)) }
     ensures { (other : Name) → get_by_text own.new other

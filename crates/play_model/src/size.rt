@@ -1,4 +1,4 @@
-//! How many hosts a batch may have.
+//! The maximum size of a batch.
 ghost use Rattle.std.specs.Prelude.{◌≡◌, ◌≤◌, ◌+◌, ◌*◌, ◌/◌, max, IfSome};
 ghost use Rattle.play_model.specs.Sizes as spec;
 
@@ -7,14 +7,14 @@ use group_tree::Percentage;
 /// An entry of a play's `serial`.
 #[derive(Clone, Copy, Debug, PartialEq, Eq)]
 pub enum Size {
-    /// So many hosts; 0 is no bound.
+    /// This many hosts; 0 means no bound.
     Count(u16),
-    /// So many of each hundred hosts that the play targets, rounded down, but at least one.
+    /// This many of each hundred hosts that the play targets, rounded down, but at least one.
     Percent(Percentage),
 }
 
 impl Size {
-    /// How many hosts a batch may have where the play targets so many; nothing where there is no bound.
+    /// Returns the maximum size of a batch if the play targets this many hosts, or `None` if there is no bound.
     pub fn bound(self, targeted: u32) -> Option<u32>
         ensures number { result ≡ spec.bound self targeted }
         ensures some { IfSome result (λ hosts. 1 ≤ hosts) }

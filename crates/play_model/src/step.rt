@@ -2,8 +2,8 @@
 use crate::words::Words;
 use cond::Cond;
 
-/// A task or a handler. `words` are the program and its arguments, in which holes stand for values of the host. `notify`
-/// are the handlers that a task notifies where it changed, each by its place among the play's handlers, from 0.
+/// A task or a handler. `words` are the program and its arguments, with placeholders for values of the host. `notify`
+/// lists the handlers that a task notifies if it changed, by their index among the play's handlers, from 0.
 #[derive(Debug, Drop)]
 pub struct Step {
     pub name: Option<String>,

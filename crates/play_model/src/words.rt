@@ -1,4 +1,4 @@
-//! The words of a command.
+//! The arguments of a command.
 ghost use Rattle.std.specs.Prelude.{◌≡◌, ◌==◌, ◌<◌, ◌++◌, ◌∷◌, [], length, IfOk, OnOk, OnErr};
 ghost use Rattle.fleet_index.specs.NumberLists.{list_at};
 ghost use Rattle.fleet_index.specs.Runs.{start_at};
@@ -6,8 +6,8 @@ ghost use Rattle.fleet_index.specs.Runs.{start_at};
 use std::alloc::{AllocError, Global};
 use std::marker::Model;
 
-/// A program and its arguments. They stand one behind the other in one text, so that they take at most two pieces of
-/// memory, however many they are.
+/// A program and its arguments. They are concatenated in one string, so they need at most two allocations, however
+/// many they are.
 #[derive(Debug, Drop)]
 pub struct Words {
     text: String,
@@ -28,7 +28,7 @@ impl Model for Words {
 }
 
 impl Words {
-    /// None yet. It takes no memory.
+    /// Creates an empty command. Does not allocate.
     pub fn new(alloc: Global) -> Words
         ensures { result ≡ [] }
     {
@@ -38,7 +38,7 @@ impl Words {
         }
     }
 
-    /// None yet; it asks for the memory of so many words that have so many bytes together.
+    /// Creates an empty command with memory for this many arguments, with this many bytes together.
     pub fn with_capacity(alloc: Global, words: usize, bytes: usize) -> Result<Words, AllocError>
         ensures { IfOk result (λ none. none ≡ []) }
     {
@@ -60,7 +60,7 @@ impl Words {
         self.ends.is_empty()
     }
 
-    /// The word at a place, from 0.
+    /// Returns the argument at an index, from 0.
     pub fn at(&self, place: usize) -> &str
         requires { place < length self.now }
         ensures { result.now ≡ list_at self.now place }
@@ -70,12 +70,12 @@ impl Words {
         &self.text.as_str()[start..ends[place]]
     }
 
-    /// The word goes behind the others; where memory is refused they stay as they were.
+    /// Adds an argument after the others. If an allocation fails, they stay as they were.
     pub fn push(&mut self, word: &str) -> Result<(), AllocError>
         ensures ok { OnOk result (self.new ≡ self.old ++ word.now ∷ []) }
         ensures err { OnErr result (self.new ≡ self.old) }
     {
-        // Room for its place comes first, so that a refusal leaves the text as it was.
+        // The space for its end is reserved first, so a failed allocation leaves the text as it was.
         self.ends.reserve(1)?;
         self.text.push_str(word)?;
         self.ends.push_reserved(self.text.len());

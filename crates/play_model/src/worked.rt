@@ -1,9 +1,9 @@
-//! The definitions, read against small values: each clause computes.
+//! The definitions, checked on small values: each clause computes.
 ghost use Rattle.std.specs.Prelude.{◌≡◌, Some, None, [], ◌∷◌};
 ghost use Rattle.play_model.specs.Sizes.{bound, cap};
 ghost use Rattle.play_model.specs.declared.size.Size.TheVariants.{Count, Percent};
 
-/// 0 is no bound, 0% is one host, and shares are rounded down.
+/// 0 means no bound, 0% means one host, and shares are rounded down.
 pub fn bounds_are_counts_or_shares()
     ensures three { bound (Count 3) 10 ≡ Some 3 }
     ensures none { bound (Count 0) 10 ≡ None }
@@ -14,7 +14,7 @@ pub fn bounds_are_counts_or_shares()
     ensures all { bound (Percent 100) 4096 ≡ Some 4096 }
 {}
 
-/// Each batch has its entry, and the last one serves on.
+/// Each batch has its entry, and the last one applies to all further batches.
 pub fn the_last_entry_serves_on()
     ensures first { cap (Count 1 ∷ Percent 70 ∷ []) 10 0 ≡ Some 1 }
     ensures second { cap (Count 1 ∷ Percent 70 ∷ []) 10 1 ≡ Some 7 }

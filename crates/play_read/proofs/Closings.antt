@@ -1,9 +1,9 @@
--- Where the first `}}` stands.
+-- The position of the first `}}`.
 use Rattle.std.proofs.Common.{◌≡◌, ℕ, suc, ◌+◌, ◌<◌, Bool, true, false, cond, Option, Some, None, List, [], ◌∷◌, length, drop, get_or, option_map, refl, sym, ap, ◌∙◌, arith, drop-cons, length-drop}
 use Rattle.text_syntax.specs.Words.{starts}
 use Rattle.playbook_schema.specs.Commands.{before_closing}
 
--- a place that is found behind one byte, and behind so many
+-- a position that is found after one byte, and after several
 abbrev one_later : Option ℕ → Option ℕ
 one_later found = option_map (λ (more : ℕ). suc more) found
 
@@ -21,7 +21,7 @@ more_by : (found : Option ℕ) (index : ℕ) → later_by index (one_later found
 more_by None index = refl
 more_by (Some more) index = let e : suc more + index ≡ more + (index + 1) = omega arith in ap (λ (n : ℕ). Some n) e
 
--- no `}}` begins before the index
+-- no `}}` starts before the index
 abbrev pub NoneBefore : List ℕ → ℕ → Type 0
 NoneBefore bytes index = before_closing bytes ≡ later_by index (before_closing (drop index bytes))
 

@@ -1,4 +1,4 @@
--- The first piece of a text, and what is left behind it.
+-- The first piece of a text, and the rest after it.
 use Rattle.std.proofs.Common.{◌≡◌, ℕ, suc, zero, ◌+◌, ◌<◌, ◌≤◌, Bool, true, false, cond, List, [], ◌∷◌, ◌++◌, length, take, drop, get_or, refl, sym, ap, ◌∙◌, subst, arith, drop-cons, length-drop, append_assoc, ◌⊎◌, inl, inr}
 use Rattle.std.specs.Str.{IsCharBoundary, IsUtf8}
 use Rattle.std.proofs.lemmas.Bool.{cases_lt}
@@ -9,7 +9,7 @@ use Rattle.text_syntax.proofs.Boundaries.{blank_ascii}
 use Rattle.playbook_schema.specs.Commands.{Word, hole_behind, pieces}
 use Rattle.play_read.specs.Pieces.{piece_length}
 
--- what is left where a piece ends: nothing, or a blank and what is behind it
+-- the rest where a piece ends: empty, or whitespace and what follows it
 abbrev pub behind_piece : List ℕ → List Word
 behind_piece [] = []
 behind_piece (blank ∷ bytes) = pieces 0 [] bytes
@@ -26,7 +26,7 @@ pieces_at_blank word byte bytes e = ap (λ (b : Bool). cond b (word ∷ pieces 0
 pieces_at_other : (word : Word) (byte : ℕ) (bytes : List ℕ) → is_blank byte ≡ false → pieces 0 word (byte ∷ bytes) ≡ pieces (hole_behind (byte ∷ bytes)) (word ++ byte ∷ []) bytes
 pieces_at_other word byte bytes e = ap (λ (b : Bool). cond b (word ∷ pieces 0 [] bytes) (pieces (hole_behind (byte ∷ bytes)) (word ++ byte ∷ []) bytes)) e
 
--- the pieces, where the first one has so many bytes
+-- the pieces, if the first one has this many bytes
 abbrev cut_at : ℕ → Word → List ℕ → List Word
 cut_at n word bytes = (word ++ take n bytes) ∷ behind_piece (drop n bytes)
 
@@ -37,7 +37,7 @@ no_more : (word : Word) → word ≡ word ++ []
 no_more [] = refl
 no_more (byte ∷ word) = ap (λ (rest : Word). byte ∷ rest) (no_more word)
 
--- it is so behind a byte of the word
+-- likewise after a byte of the piece
 abbrev IsCutBehind : Word → ℕ → List ℕ → Type 0
 IsCutBehind word byte bytes =
     let inside = hole_behind (byte ∷ bytes) in
@@ -62,7 +62,7 @@ first_piece (suc inside) word (byte ∷ bytes) =
 first_piece zero word (byte ∷ bytes) =
     outside word byte bytes (first_piece (hole_behind (byte ∷ bytes)) (word ++ byte ∷ []) bytes) (is_blank byte) refl
 
--- a piece ends at a blank, or with the text
+-- a piece ends at whitespace, or with the text
 pub record Ends (bytes : List ℕ) (place : ℕ) : Type 0 where
   pub within : place ≤ length bytes
   pub blank : place < length bytes → is_blank (get_or bytes place 0) ≡ true
@@ -89,7 +89,7 @@ piece_boundary bytes place found (inr l) =
 pub piece_ends : (bytes : List ℕ) → IsCharBoundary bytes (piece_length 0 bytes)
 piece_ends bytes = piece_boundary bytes (piece_length 0 bytes) (ends 0 bytes) (cases_lt (piece_length 0 bytes) (length bytes))
 
--- behind the blank that ends it
+-- after the whitespace that ends it
 pub blank_ends : (bytes : List ℕ) (n : ℕ) → n ≡ piece_length 0 bytes → IsUtf8 bytes → n < length bytes → IsCharBoundary bytes (n + 1)
 blank_ends bytes n is utf8 within =
     let small : get_or bytes n 0 < 128 = blank_ascii (get_or bytes n 0) (subst (λ (k : ℕ). k < length bytes → is_blank (get_or bytes k 0) ≡ true) (sym is) (ends 0 bytes).blank within) in
@@ -104,7 +104,7 @@ piece_before bytes n is within =
     let next : suc n ≡ n + 1 = omega arith in
     first_piece 0 [] bytes ∙ ap (λ (k : ℕ). cut_at k [] bytes) (sym is) ∙ ap (λ (rest : List ℕ). take n bytes ∷ behind_piece rest) (drop-cons bytes n 0 within) ∙ ap (λ (k : ℕ). take n bytes ∷ pieces 0 [] (drop k bytes)) next
 
--- one byte more
+-- one more byte
 pub length_outside : (bytes : List ℕ) (index : ℕ) → index < length bytes → is_blank (get_or bytes index 0) ≡ false → piece_length 0 (drop index bytes) ≡ suc (piece_length (hole_behind (drop index bytes)) (drop (index + 1) bytes))
 length_outside bytes index within other =
     let byte = get_or bytes index 0 in
@@ -116,7 +116,7 @@ length_outside bytes index within other =
     ∙ ap (λ (list : List ℕ). suc (piece_length (hole_behind list) rest)) (sym front)
     ∙ ap (λ (k : ℕ). suc (piece_length (hole_behind (drop index bytes)) (drop k bytes))) next
 
--- all bytes of a hole are the piece's
+-- all bytes of a placeholder belong to the piece
 skipped : (inside : ℕ) (bytes : List ℕ) → inside ≤ length bytes → piece_length inside bytes ≡ inside + piece_length 0 (drop inside bytes)
 skipped zero bytes within = omega arith
 skipped (suc inside) [] within = absurd (omega (arith, within))

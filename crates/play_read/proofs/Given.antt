@@ -1,4 +1,4 @@
--- What a key of a step lists.
+-- The values that a key of a step lists.
 use Rattle.std.proofs.Common.{◌≡◌, ◌≢◌, ◌==◌, length, Bool, true, false, Some, List, [], ◌∷◌, map, sym, ap, ◌∙◌, refl, subst}
 use Rattle.std.specs.Prelude.{if◌then◌else◌}
 use Rattle.std.specs.List.{list_all, filter_map, flat_map}
@@ -19,7 +19,7 @@ use Rattle.playbook_schema.proofs.EntryLaws.{entries_pass}
 use Rattle.playbook_schema.proofs.CheckLaws.{kept_parts, kept_rules}
 use Rattle.play_read.specs.Says.{Gathers, Says}
 
--- a part for each value, where each is one
+-- a part for each value, if each is one
 some_part : (list : List Data) → list_all is_clause list ≡ true → list ≢ [] → filter_map clause_of list ≢ []
 some_part [] all some none = some refl
 some_part (null ∷ list) all some none = absurd (cc)
@@ -37,11 +37,11 @@ by_null : (at : Path) (value : Data) (null : Bool) → (if null then [] else bad
 by_null at value true none = refl
 by_null at value false none = entries_pass BadShape is_clause at value none
 
--- where no part has another shape, each is a text or a truth value
+-- if no part has another shape, each is a string or a boolean
 pub shapes_pass : (at : Path) (value : Data) → bad_clauses at value ≡ [] → list_all is_clause (clauses_listed value) ≡ true
 shapes_pass at value none = by_null at value (is_null value) none
 
--- what the parts say that were joined, where nothing is told of them
+-- the meaning of the joined parts, if no error is reported of them
 module _ (spot : Spot) (key : Name) (value : Data) (list : List Data) (are : list ≡ clauses_listed value) (kept : AllKept (checks_of spot key value)) where
   both : AllKept (map Broken (bad_clauses (under [] key) value)) × AllKept (flat_map (asked_of spot key) (clauses_of value))
   both = kept_parts (map Broken (bad_clauses (under [] key) value)) (flat_map (asked_of spot key) (clauses_of value)) kept

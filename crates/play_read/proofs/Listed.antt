@@ -1,4 +1,4 @@
--- The lists of a play, as they are given.
+-- The lists of a play, as given.
 use Rattle.std.proofs.Common.{◌≡◌, ℕ, ◌+◌, ◌++◌, Bool, Option, List, [], length, map, ap, ◌∙◌}
 use Rattle.std.specs.List.{filter_map}
 use Rattle.serde_json.specs.Data.{Data}

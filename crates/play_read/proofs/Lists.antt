@@ -1,4 +1,4 @@
--- Lists, place by place.
+-- Lists, index by index.
 use Rattle.std.proofs.Common.{◌≡◌, ◌≤◌, Option, Some, None, List, [], ◌∷◌, ◌++◌, length, map, sym, ap, ◌∙◌, subst, arith}
 use Rattle.std.specs.List.{AllZip, filter_map}
 use Rattle.std.specs.List.{cons_option}

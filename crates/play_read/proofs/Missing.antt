@@ -1,4 +1,4 @@
--- Handlers that are named and aren't there.
+-- Handlers that are named and do not exist.
 use Rattle.std.proofs.Common.{◌≡◌, ℕ, ◌+◌, ◌<◌, Bool, true, false, not, cond, List, [], ◌∷◌, ◌++◌, map, drop, get_or, length, refl, ap, ◌∙◌}
 use Rattle.std.specs.Prelude.{filter, if◌then◌else◌}
 use Rattle.std.specs.List.{filter_map}
@@ -19,7 +19,7 @@ use Rattle.playbook_schema.proofs.NameLaws.{once-append, once_alone}
 abbrev pub missing_behind : List Name → List Name → List Name → List Check
 missing_behind handlers before names = map Broken (map NoSuchHandler (once before (filter (is_missing handlers) names)))
 
--- one more value, and those behind it
+-- one more value, and those after it
 pub missing_on : (handlers before : List Name) (names : List Value) (index : ℕ) (item : Value) → index < length names → item ≡ get_or names index item
     → missing_behind handlers before (texts (drop index names)) ≡ missing_behind handlers before (filter_map as_str (view item ∷ []))
     ++ missing_behind handlers (before ++ once before (filter (is_missing handlers) (filter_map as_str (view item ∷ [])))) (texts (drop (index + 1) names))
@@ -35,14 +35,14 @@ missing_on handlers before names index item within is =
     ∙ ap (map Broken) (map-append NoSuchHandler (once before front) (once (before ++ once before front) back))
     ∙ map-append Broken (map NoSuchHandler (once before front)) (map NoSuchHandler (once (before ++ once before front) back))
 
--- what is missing of one name: nothing where a handler has it, else the name where it is new
+-- what is missing of one name: nothing if a handler has it, otherwise the name if it is new
 pub with_handler : (handlers before : List Name) (name : Name) → is_among name handlers ≡ true → once before (filter (is_missing handlers) (name ∷ [])) ≡ []
 with_handler handlers before name is = ap (λ (b : Bool). once before (cond (not b) (name ∷ []) [])) is
 
 pub without_handler : (handlers before : List Name) (name : Name) → is_among name handlers ≡ false → once before (filter (is_missing handlers) (name ∷ [])) ≡ once_more before name
 without_handler handlers before name is = ap (λ (b : Bool). once before (cond (not b) (name ∷ []) [])) is ∙ once_alone before name
 
--- a new name is told
+-- a new name is reported
 new_by : (before : List Name) (name : Name) (among new : Bool) → new ≡ not among → map Broken (unless (not new) (NoSuchHandler name)) ≡ map Broken (map NoSuchHandler (if among then [] else name ∷ []))
 new_by before name true true e = absurd (cc)
 new_by before name true false e = refl

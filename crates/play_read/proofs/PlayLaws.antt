@@ -1,4 +1,4 @@
--- What a play keeps of which nothing is told.
+-- The properties of a play without errors.
 use Rattle.std.proofs.Common.{◌≡◌, ◌++◌, ◌≤◌, true, nat_lt, nat_le, Option, Some, None, [], length, map, arith}
 use Rattle.std.proofs.lemmas.Bool.{and_parts, leb-true, ltb-true}
 use Rattle.serde_json.specs.Data.{Data}

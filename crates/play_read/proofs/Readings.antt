@@ -1,4 +1,4 @@
--- Parts of a condition that were read.
+-- Parsed parts of a condition.
 use Rattle.std.proofs.Common.{◌≡◌, ℕ, ◌+◌, ◌<◌, length, get_or, drop, Option, Some, None, Ok, List, [], ◌∷◌, ◌++◌, map, sym, ap, ◌∙◌, refl, subst}
 use Rattle.std.specs.List.{cons_option, filter_map, flat_map}
 use Rattle.std.proofs.lemmas.List.{drop_more}
@@ -12,7 +12,7 @@ use Rattle.playbook_schema.specs.Conditions.{clause_of}
 use Rattle.playbook_schema.specs.Checks.{IsCondition}
 use Rattle.play_read.specs.Says.{Meaning, Means, MeanEach, said_on, Gathers, IsMore}
 
--- a text that was joined is a condition
+-- a string that was joined is a valid condition
 pub added_is_condition : (text : List ℕ) (before after : Environment → List Verdict) → IsAdded text before after → IsCondition text
 added_is_condition text before after added = condition_of text added.0 added.1
   where
@@ -37,7 +37,7 @@ map_more : (e : Environment) (parts : List Meaning) (last : Meaning) → said_on
 map_more e [] last = refl
 map_more e (part ∷ parts) last = ap (λ l. part e ∷ l) (map_more e parts last)
 
--- those before, and what the part adds
+-- the earlier parts, and what this part adds
 abbrev pub with_part : Clauses → Option rules.Clause → Clauses
 with_part before None = before
 with_part before (Some clause) = with_last before clause
@@ -60,12 +60,12 @@ with_consed before None later = refl
 with_consed [] (Some clause) later = refl
 with_consed (first ∷ before) (Some clause) later = ap (λ l. first ∷ l) (with_consed before (Some clause) later)
 
--- what is asked of a part, and of those behind it
+-- what is checked of a part, and of those after it
 pub asked_on : (asked : rules.Clause → List Check) (part : Option rules.Clause) (later : Clauses) → flat_map asked (cons_option part later) ≡ where_given asked part ++ flat_map asked later
 asked_on asked None later = refl
 asked_on asked (Some clause) later = refl
 
--- what is left of a list, from a value on
+-- the rest of a list, from a value on
 pub left_at : {A : Type 0} (view : A → Data) (list : List A) (i : ℕ) (item : A) → i < length list → item ≡ get_or list i item → filter_map clause_of (map view (drop i list)) ≡ cons_option (clause_of (view item)) (filter_map clause_of (map view (drop (i + 1) list)))
 left_at {A} view list i item within is =
     ap (λ (l : List A). filter_map clause_of (map view l)) (drop_more list i item within ∙ ap (λ (x : A). x ∷ drop (i + 1) list) (sym is))

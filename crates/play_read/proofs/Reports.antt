@@ -1,4 +1,4 @@
--- What the faults that are found say of a text.
+-- What the errors found state about a text.
 use Rattle.std.proofs.Common.{◌≡◌, ℕ, ◌<◌, ◌==◌, ◌&&◌, Bool, true, false, Option, Some, List, [], ◌∷◌, ◌++◌, map, take, length, get_or, inl, inr, MatchOption, refl, sym, ap, ◌∙◌, subst, arith}
 use Rattle.std.specs.Bool.{⊤}
 use Rattle.std.proofs.lemmas.Bool.{and_from, and_parts, both_ways, eq-eqb, eqb-true, false_from_ne_true, leb-true, ltb-true}
@@ -34,7 +34,7 @@ as_silent u told faults more =
     ap (λ (n : ℕ). n == 0 && told.more == 0) (sym (length-map told.faults.items named_of) ∙ ap (λ (l : List (Option Named)). length l) faults)
     ∙ ap (λ (n : ℕ). length u.told == 0 && n == 0) more
 
--- where there is one the first is told
+-- if there is an error, the first is reported
 one_told : (named : List Named) (told : Told) → AreTold 1 named told → is_empty told ≡ false
     → (one : Named) × (later : List Named) × (named ≡ one ∷ later) × (map named_of told.faults.items ≡ Some one ∷ [])
 one_told [] told are some =
@@ -42,7 +42,7 @@ one_told [] told are some =
     absurd (both_ways (is_empty told) some (and_from _ _ (eq-eqb (length told.faults.items) 0 none) (eq-eqb told.more 0 are.others)))
 one_told (one ∷ later) told are some = (one, later, refl, are.first)
 
--- where there is no fault nothing is told
+-- if there is no error, nothing is reported
 none_told : (most : ℕ) (named : List Named) (told : Told) → AreTold most named told → is_empty told ≡ true → named ≡ []
 none_told most named told are empty =
     let both = and_parts (length told.faults.items == 0) (told.more == 0) empty in
@@ -54,7 +54,7 @@ pub one_is_told : (most : ℕ) (one : Named) (told : Told) → AreTold most (one
 one_is_told most one told are =
     false_from_ne_true (is_empty told) (λ empty. let none : one ∷ [] ≡ [] = none_told most (one ∷ []) told are empty in cc)
 
--- of one rule that is broken
+-- for one broken rule
 pub told_one : (breach : Breach) (told : List Named) → Tells (Broken breach ∷ []) told → told ≡ rule breach ∷ []
 told_one breach told tells =
     tells.parts ∙ ap (λ (l : List Named). l ++ tells.rest) tells.is ∙ ap (λ (l : List Named). rule breach ∷ l) tells.others
@@ -88,7 +88,7 @@ module _ (plays : ℕ) (text : List ℕ) (told : Told) (are : AreFaultsOf plays 
       subst (λ option. MatchOption option ⊤ (BreaksFirst (rule NotJson) (IsFirstOf plays) text)) (sym (at_first told.faults.items fault (Some one.0) is one.3))
       (breaks_first plays text are.are_told.named one.0 one.1 are.are_told.all one.2)
 
--- a text that may have one play has one
+-- a text that is limited to one play has one
 kept_number : (a b : Bool) (first second : Breach) (rest : List Check) → AllKept (map Broken (unless a first ++ unless b second) ++ rest) → (a ≡ true) × (b ≡ true)
 kept_number true true first second rest kept = (refl, refl)
 kept_number true false first second rest kept = absurd kept

@@ -1,4 +1,4 @@
--- Steps that are read.
+-- Parsed steps.
 use Rattle.std.proofs.Common.{◌≡◌, zero, suc, Bool, true, false, not, ℕ, ◌+◌, ◌<◌, ◌≤◌, Option, Some, None, List, [], ◌∷◌, ◌++◌, length, map, sym, ◌∙◌, ap, refl, subst, arith, length-append, unwrap_or}
 use Rattle.std.specs.Prelude.{All, IsFalse, if◌then◌else◌}
 use Rattle.std.specs.List.{cons_option, filter_map, list_any}
@@ -34,7 +34,7 @@ pub as_many_steps : (says : Data → WrittenStep) (written : List Data) (steps :
 as_many_steps says written steps each =
     AllZip-long IsStep (map says written) steps each ∙ length-map written says
 
--- handlers notify nobody
+-- handlers notify no handler
 pub handlers_silent : (handlers : List Data) (steps : List Step) → AreSteps (map handler_of handlers) steps → All NotifiesNobody steps
 handlers_silent [] [] each = All-nil NotifiesNobody
 handlers_silent [] (step ∷ steps) each = absurd each
@@ -66,7 +66,7 @@ module _ (names : List Name) where
       (All-weaker IsNumber (λ handler. handler < most) (λ handler below. omega (arith, below, few)) _ (found_below (notified_in task))))
       (tasks_named most few tasks steps each.1)
 
--- no word has what none of them has
+-- if none of the arguments has something, each lacks it
 none_has : {X : Type 0} (test : X → Bool) (xs : List X) → list_any test xs ≡ false → All (λ x. IsFalse (test x)) xs
 none_has test [] none k d within = absurd (omega (arith, within))
 none_has test (x ∷ xs) none zero d within = (or_parts (test x) (list_any test xs) none).0
@@ -80,7 +80,7 @@ not_true false e = refl
 abbrev ArePlain : List Word → Type 0
 ArePlain words = All (λ word. IsFalse (has_braces word)) words
 
--- of the words of a command nothing is told
+-- no error is reported of the arguments of a command
 plain_words : (spot : Spot) (at : Path) (words : Option (List Word)) → bad_words spot at words ≡ [] → ArePlain (unwrap_or words [])
 plain_words spot at None none = absurd (cc)
 plain_words spot at (Some words) none = none_has has_braces words (not_true (list_any has_braces words) (kept (not (list_any has_braces words)) (BadBraces spot) none))
@@ -97,7 +97,7 @@ module _ (list : StepList) (spot : Spot) (step : Data) where
       let command = (kept_parts (map Broken (bad_name list step)) (map Broken (bad_command spot step) ++ map Broken (bad_register step)) named).1 in
       plain_words spot (bad_path [] step) (words_in step) (kept_rules (bad_command spot step) (kept_parts (map Broken (bad_command spot step)) (map Broken (bad_register step)) command).0)
 
--- so in no word of the steps an opening brace begins anything but a hole
+-- so in every argument of the steps, each opening brace starts a placeholder
 module _ (at : Path) (play : Option ℕ) where
   pub tasks_plain : (place : ℕ) (readable : Bool) (names : List Name) (tasks : List Data) (steps : List Step)
       → AllKept (checks_of_tasks at play place readable names tasks) → AreSteps (map (step_of names) tasks) steps → All HasPlainWords steps
@@ -125,7 +125,7 @@ module _ (at : Path) (play : Option ℕ) where
       (subst ArePlain (sym each.0.words) (plain_where_kept Handlers spot handler own))
       (handlers_plain first (place + 1) next handlers steps both.1 each.1)
 
--- there are no more names than handlers
+-- there are at most as many names as handlers
 once_short : (before names : List Name) → length (once before names) ≤ length names
 once_short before [] = omega arith
 once_short before (name ∷ names) =

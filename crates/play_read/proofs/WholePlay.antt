@@ -1,4 +1,4 @@
--- A play of which nothing is told.
+-- A play without errors.
 use Rattle.std.proofs.Common.{◌≡◌, ℕ, ◌+◌, ◌++◌, ◌≤◌, true, Option, List, [], length, map, ap, ◌∙◌, sym, subst, arith}
 use Rattle.std.specs.Prelude.{All}
 use Rattle.std.specs.String.{string_bytes}

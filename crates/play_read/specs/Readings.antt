@@ -1,10 +1,10 @@
--- A step as the code keeps it.
+-- A step as the code stores it.
 use Rattle.std.specs.Prelude.{◌≡◌, option_map, string_bytes}
 use Rattle.play_model.specs.declared.step.Step.{Step}
 use Rattle.playbook_schema.specs.Steps.{WrittenStep}
 use Rattle.play_read.specs.Says.{Says}
 
--- the step says what is written: the same texts and numbers, and conditions that mean the clauses
+-- the step has the written contents: the same strings and numbers, and conditions that mean the clauses
 pub record IsStep (written : WrittenStep) (step : Step) : Type 0 where
   pub name : option_map string_bytes step.name ≡ written.name
   pub words : step.words ≡ written.words

@@ -1,4 +1,4 @@
--- What reading a playbook promises.
+-- The promises of reading a playbook.
 use Rattle.std.specs.Prelude.{◌≡◌, ℕ, ◌⊎◌, ◌++◌, false, Some, List, [], ◌∷◌, length, string_bytes, IsUtf8, ⊤, MatchOption}
 use Rattle.std.specs.List.{AllZip}
 use Rattle.serde_json.specs.Data.{Data}
@@ -17,7 +17,7 @@ use Rattle.playbook_schema.specs.declared.fault.PlayFault.{PlayFault}
 use Rattle.playbook_schema.specs.declared.told.Told.{Told}
 use Rattle.play_read.specs.Readings.{IsStep}
 
--- a step for each that is written, in the order in which they are written
+-- a step for each written one, in the same order
 abbrev pub AreSteps : List WrittenStep → List Step → Type 0
 AreSteps written steps = AllZip IsStep written steps
 
@@ -30,8 +30,8 @@ pub record IsPlay (written : WrittenPlay) (play : Play) : Type 0 where
   pub tasks : play.tasks ≡ length written.tasks
   pub steps : AreSteps (written.tasks ++ written.handlers) play.steps.items
 
--- the text is UTF-8 JSON, all that its value has to keep is kept, and the plays are those that the value says; it may say
--- so many
+-- the text is valid UTF-8 JSON, its value passes every check, and the plays are those that it contains; at most
+-- `most` are allowed
 pub record IsReadAs (most : ℕ) (text : List ℕ) (plays : List Play) : Type 0 where
   pub utf8 : IsUtf8 text
   pub document : Data
@@ -39,34 +39,34 @@ pub record IsReadAs (most : ℕ) (text : List ℕ) (plays : List Play) : Type 0 
   pub keeps_all : AllKept (checks most document)
   pub says : AllZip IsPlay (plays_of document) plays
 
--- it names the first check of the document that is not kept
+-- it names the first check that the document fails
 abbrev pub IsFirstOf : ℕ → Data → Named → Type 0
 IsFirstOf most document named = IsFirst named (checks most document)
 
--- the fault names the first check of the text that is not kept, or want of memory
+-- the error names the first check that the text fails, or an allocation failed
 abbrev pub IsTrueOf : ℕ → List ℕ → PlayFault → Type 0
 IsTrueOf most text fault = MatchOption (named_of fault) ⊤ (BreaksFirst (rule NotJson) (IsFirstOf most) text)
 
--- what is told of a text that may say so many plays: that it is no JSON, and that alone, or all that its document has to keep
--- and doesn't
+-- the errors of a text with at most `plays` plays: only that it is not valid JSON, or all checks that its document
+-- fails
 abbrev pub AreAllOf : ℕ → List ℕ → List Named → Type 0
 AreAllOf plays text named =
     ((named ≡ rule NotJson ∷ []) × IsNoJson text) ⊎ ((document : Data) × IsUtf8 text × (read text ≡ Some document) × Tells (checks plays document) named)
 
--- the first of all that is told of the text, at most so many, and how many more there are
+-- the first `most` errors of the text, and how many more there are
 pub record AreToldOf (plays : ℕ) (text : List ℕ) (most : ℕ) (told : Told) : Type 0 where
   pub named : List Named
   pub all : AreAllOf plays text named
   pub are_told : AreTold most named told
 
--- the same of checks that aren't all kept
+-- likewise for checks that do not all pass
 pub record AreToldBy (checks : List Check) (most : ℕ) (told : Told) : Type 0 where
   pub named : List Named
   pub tells : Tells checks named
   pub are_told : AreTold most named told
   pub some : is_empty told ≡ false
 
--- and of a text that doesn't keep all
+-- and for a text that does not pass all
 pub record AreFaultsOf (plays : ℕ) (text : List ℕ) (most : ℕ) (told : Told) : Type 0 where
   pub are_told : AreToldOf plays text most told
   pub some : is_empty told ≡ false

@@ -1,4 +1,4 @@
--- What the condition of several parts says.
+-- The meaning of a condition with several parts.
 use Rattle.std.specs.Prelude.{◌≡◌, ◌≢◌, Option, Some, None, Ok, List, [], ◌∷◌, ◌++◌, map, ⊤}
 use Rattle.serde_json.specs.Data.{Data}
 use Rattle.cond.specs.Conditions.{IsMeant, IsAdded}
@@ -15,16 +15,16 @@ use Rattle.playbook_schema.specs.Conditions.{checks_at, clauses_at}
 use Rattle.play_read.specs.declared.clause.Clause.{Clause}
 use Rattle.play_read.specs.declared.clause.Clause.TheVariants as clause
 
--- a part as the code keeps it
+-- a part as the code stores it
 abbrev pub said : Clause → rules.Clause
 said (clause.Truth truth) = rules.Truth truth
 said (clause.Text text) = rules.Text text.now
 
--- what a part says on each host
+-- the meaning of a part on each host
 abbrev pub Meaning : Type 0
 Meaning = Environment → Verdict
 
--- a truth value means itself, and a text what it means as a condition
+-- a boolean means itself, and a string what it means as a condition
 abbrev pub Means : rules.Clause → Meaning → Type 0
 Means (rules.Truth truth) means = (e : Environment) → means e ≡ Ok truth
 Means (rules.Text text) means = IsMeant text means
@@ -36,7 +36,7 @@ MeanEach [] (means ∷ others) = ⊥
 MeanEach (clause ∷ clauses) [] = ⊥
 MeanEach (clause ∷ clauses) (means ∷ others) = Means clause means × MeanEach clauses others
 
--- what they say on one host
+-- their verdicts on one host
 abbrev pub said_on : Environment → List Meaning → List Verdict
 said_on e parts = map (λ means. means e) parts
 
@@ -57,12 +57,12 @@ pub record Gathers (clauses : List rules.Clause) (all : Conjunction) : Type 0 wh
   pub each : MeanEach clauses parts
   pub same : (e : Environment) → verdicts_on all e ≡ said_on e parts
 
--- the part, where there is one, was joined to the others
+-- the part, if there is one, was joined to the others
 abbrev pub IsMore : Option rules.Clause → Conjunction → Conjunction → Type 0
 IsMore None all more = all ≡ more
 IsMore (Some (rules.Truth truth)) all more = (e : Environment) → verdicts_on more e ≡ verdicts_on all e ++ Ok truth ∷ []
 IsMore (Some (rules.Text text)) all more = IsAdded text (verdicts_on all) (verdicts_on more)
 
--- the condition under a key of a step says what is written there, where nothing is told of it
+-- the condition under a key of a step has the written meaning, if no error is reported of it
 abbrev pub SaysUnder : Spot → Name → Data → Option Cond → Type 0
 SaysUnder spot key step condition = AllKept (checks_at spot key step) → Says (clauses_at key step) condition

@@ -1,4 +1,4 @@
-//! A command that is written as a list of words.
+//! A command written as a list of arguments.
 ghost use Rattle.std.specs.Prelude.{◌≡◌, ◌++◌, IfOk, OnOk, map, option_to_list};
 ghost use Rattle.std.specs.List.{filter_map, list_all};
 ghost use Rattle.serde_json.specs.View.{view};
@@ -10,7 +10,8 @@ use playbook_schema::is_word;
 use serde_json::Value;
 use std::alloc::{AllocError, Global};
 
-/// The words of the list: texts, and whole numbers in decimal; nothing where it has none, or has another value in it.
+/// Returns the arguments of the list: strings, and integers in decimal. Returns `None` if the list is empty or
+/// contains another value.
 pub(crate) fn words_listed(alloc: Global, list: &[Value]) -> Result<Option<Words>, AllocError>
     ensures { IfOk result (λ words. words ≡ spec.words_listed (map view list.now)) }
 {
@@ -34,7 +35,7 @@ fn are_words(list: &[Value]) -> bool
 fn words_among(alloc: Global, list: &[Value]) -> Result<Words, AllocError>
     ensures { IfOk result (λ words. words ≡ filter_map spec.word_of (map view list.now)) }
 {
-    // Room for eight bytes a word, of at most 64 words: most are shorter, and what is longer takes more as it comes.
+    // Reserves eight bytes per argument, for at most 64: most are shorter, and longer ones allocate more.
     let mut words = Words::with_capacity(alloc, list.len(), 8 * list.len().min(64))?;
     for value in list {
         push_word(&mut words, value)?;

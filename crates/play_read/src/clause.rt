@@ -7,14 +7,14 @@ ghost use Rattle.play_read.specs.Says.{said};
 use serde_json::Value;
 use text_syntax::listed;
 
-/// A truth value, or a text that has to be a condition.
+/// A boolean, or a string that must be a valid condition.
 #[derive(Clone, Copy, Debug)]
 pub(crate) enum Clause<'a> {
     Truth(bool),
     Text(&'a str),
 }
 
-/// The parts that a value lists; null lists none.
+/// Returns the parts that a value lists; null lists none.
 pub(crate) fn clauses_listed(value: &Value) -> &[Value]
     ensures { map view result.now ≡ spec.clauses_listed (view value.now) }
 {

@@ -22,7 +22,7 @@ use serde_json::Value;
 use std::alloc::{AllocError, Global};
 use text_syntax::{check_word, elements_of};
 
-/// The words of a step's command: each opening brace in them has to begin a hole.
+/// Returns the arguments of a step's command. Each opening brace in them must start a placeholder.
 pub(crate) fn read_command(
     faults: &mut FaultCollector,
     place: Place,
@@ -61,8 +61,9 @@ fn has_bad_braces(word: &str) -> bool
     check_word(word).is_err()
 }
 
-/// Its words: free-form text, or an object with one key alone, `argv` or `cmd`; nothing where a step
-/// has neither `command` nor its long form or both, or the value has another shape. It fails for want of memory alone.
+/// Returns the arguments: a free-form string, or an object with a single key, `argv` or `cmd`. Returns `None` if a
+/// step has neither `command` nor its long form, or both, or if the value has another shape. Fails only if an
+/// allocation fails.
 fn words_in(alloc: Global, step: &Value) -> Result<Option<Words>, AllocError>
     ensures { IfOk result (λ words. words ≡ spec.words_in (view step.now)) }
 {

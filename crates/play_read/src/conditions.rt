@@ -22,8 +22,9 @@ use playbook_schema::{ConditionKey, FaultCollector, Place, Test, check_entries};
 use serde_json::Value;
 use std::alloc::{AllocError, Global};
 
-/// The condition under a key of a step: the texts and truth values that it lists, joined by `and`; none where the key is
-/// missing, null or an empty list. The shapes of all parts come before the texts that are no conditions.
+/// Returns the condition under a key of a step: the strings and booleans that it lists, joined by `and`. There is
+/// none if the key is missing, null or an empty list. Errors in the shape of any part come before strings that are
+/// not valid conditions.
 pub(crate) fn read_condition(
     faults: &mut FaultCollector,
     place: Place,
@@ -39,7 +40,7 @@ pub(crate) fn read_condition(
     }
 }
 
-// Apart, so that a step without the key doesn't pay for what it needs.
+// A separate function, so that a step without the key does not pay for its setup.
 #[inline(never)]
 fn read_given(
     faults: &mut FaultCollector,
@@ -59,7 +60,7 @@ fn read_given(
     Ok(Some(all.finish()))
 }
 
-/// Checks that each part is a text or a truth value.
+/// Checks that each part is a string or a boolean.
 fn check_shapes(
     faults: &mut FaultCollector,
     place: Place,
@@ -74,7 +75,7 @@ fn check_shapes(
     check_entries(faults, place, Test::Clause, key.name(), value)
 }
 
-/// The parts that a list gives, joined by `and`; what is neither a text nor a truth value is passed over.
+/// Joins the parts of a list by `and`; a part that is neither a string nor a boolean is skipped.
 fn gather(
     faults: &mut FaultCollector,
     place: Place,
@@ -125,7 +126,7 @@ fn join_text(
     }
 }
 
-/// What is wrong with a text that has to be a condition; where nothing is, it is joined to the others.
+/// Adds a string to the others if it is a valid condition, otherwise returns its error.
 fn add_text(
     alloc: Global,
     all: &mut Conjunction,

@@ -26,7 +26,7 @@ fn listed(document: &Value) -> &[Value]
     }
 }
 
-/// The plays of a document that may have so many. Of too many nothing is told.
+/// Returns the plays of a document that can have at most `most`. If it has more, only that is reported.
 pub(crate) fn read_document(
     faults: &mut FaultCollector,
     document: &Value,
@@ -70,7 +70,7 @@ fn read_each(faults: &mut FaultCollector, plays: &[Value]) -> Result<Vec<Play>, 
     Ok(read)
 }
 
-/// The place of a play in a file of so many.
+/// Returns the place of a play in a file with this many plays.
 fn place_of(index: usize, plays: usize) -> PlayPlace
     requires { index < plays }
     ensures place { result.index ≡ index }

@@ -1,4 +1,4 @@
-//! A command that is written as one text.
+//! A command written as a string.
 ghost use Rattle.std.specs.Prelude.{◌≡◌, IfOk};
 ghost use Rattle.std.specs.List.{list_any};
 ghost use Rattle.playbook_schema.specs.Commands as spec;
@@ -7,7 +7,8 @@ use crate::split::split_words;
 use play_model::Words;
 use std::alloc::{AllocError, Global};
 
-/// The words of the text; nothing where it has quotes or a backslash, has no word, or has a parameter among its words.
+/// Returns the arguments of the string. Returns `None` if it has quotes or a backslash, no arguments, or a parameter
+/// among them.
 pub(crate) fn free_words(alloc: Global, text: &str) -> Result<Option<Words>, AllocError>
     ensures { IfOk result (λ words. words ≡ spec.free_words text.now) }
 {
@@ -24,7 +25,7 @@ pub(crate) fn free_words(alloc: Global, text: &str) -> Result<Option<Words>, All
 fn has_quoting(bytes: &[u8]) -> bool
     ensures { result ≡ list_any spec.is_quoting bytes.now }
 {
-    // It goes on to the end, so that many bytes are looked at together.
+    // The loop has no early exit, so that many bytes can be checked together.
     let mut found = false;
     for byte in bytes {
         found |= is_quoting(*byte);

@@ -24,7 +24,7 @@ use playbook_schema::{
 use serde_json::Value;
 use std::alloc::AllocError;
 
-/// Checks that no handler before this one has its name, which is known from then on.
+/// Checks that no earlier handler has this one's name, and adds the name to the list.
 fn check_name<'a>(
     faults: &mut FaultCollector,
     place: Place,
@@ -54,7 +54,7 @@ fn add_name<'a>(
     Ok(())
 }
 
-/// Reads a handler into a step that notifies nobody, and then whether its name stood before.
+/// Reads a handler into a step that notifies no handler, then checks whether its name occurs before.
 fn read_one<'a>(
     faults: &mut FaultCollector,
     place: StepPlace,
@@ -73,7 +73,7 @@ fn read_one<'a>(
     Ok(())
 }
 
-/// The handlers of a play with so many tasks, and their names.
+/// Returns the handlers of a play with this many tasks, and their names.
 pub(crate) fn read_handlers<'a>(
     faults: &mut FaultCollector,
     play: PlayPlace,

@@ -1,8 +1,8 @@
-//! Values in their places.
+//! Replacing a value at its place.
 ghost use Rattle.std.specs.Prelude.{◌≡◌};
 
-/// Puts a value into its place; what stood there is dropped. An assignment would have each of its kinds dropped on its own
-/// in the proof of each caller.
+/// Replaces a value and drops the old one. With a plain assignment, the proof of each caller would have to handle the
+/// drop of every variant.
 pub(crate) fn put<T: Drop>(place: &mut T, value: T)
     ensures { place.new ≡ value }
 {

@@ -1,12 +1,12 @@
-//! Holes in a text: `{{`, and what follows up to the next `}}`.
+//! Placeholders in a text: `{{`, and what follows up to the next `}}`.
 ghost use Rattle.std.specs.Prelude.{◌≡◌, ◌+◌, ◌-◌, ◌<◌, ◌≤◌, length, option_map, unwrap_or, IfSome};
 ghost use Rattle.playbook_schema.specs.Commands as spec;
 ghost use Rattle.play_read.specs.Pieces.{IsOpenBelow};
 
 use text_syntax::starts_with_pair;
 
-/// How many bytes more belong to a hole that the bytes begin with; 0 where they begin with none. In fewer bytes than `tail`
-/// at their end no hole is closed.
+/// Returns how many more bytes belong to a placeholder that the bytes start with, or 0 if they start with none. Any
+/// end of the bytes shorter than `tail` contains no `}}`.
 pub(crate) fn hole_behind(bytes: &[u8], tail: usize) -> usize
     requires { IsOpenBelow tail bytes.now }
     ensures number { result ≡ spec.hole_behind bytes.now }
@@ -15,7 +15,7 @@ pub(crate) fn hole_behind(bytes: &[u8], tail: usize) -> usize
     if !starts_with_pair(bytes, b'{', b'{') {
         return 0;
     }
-    // Each opening behind the last `}}` would else be searched for one up to the end of the text.
+    // Otherwise, each opening after the last `}}` would be searched to the end of the text.
     if bytes.len() < tail {
         return 0;
     }
@@ -25,7 +25,7 @@ pub(crate) fn hole_behind(bytes: &[u8], tail: usize) -> usize
     }
 }
 
-/// How many bytes stand before the first `}}`.
+/// Returns how many bytes precede the first `}}`.
 fn before_closing(bytes: &[u8]) -> Option<usize>
     ensures place { result ≡ spec.before_closing bytes.now }
     ensures within { IfSome result (λ place. place + 2 ≤ length bytes.now) }
@@ -38,7 +38,7 @@ fn before_closing(bytes: &[u8]) -> Option<usize>
     None
 }
 
-/// How many bytes the text has from its last `}}` on; more than it has where there is none.
+/// Returns the number of bytes from the last `}}` on, or more than the text has if there is none.
 pub(crate) fn tail_of_last_closing(bytes: &[u8]) -> usize
     ensures { IsOpenBelow result bytes.now }
 {

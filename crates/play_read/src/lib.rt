@@ -1,4 +1,4 @@
-//! From the bytes of a text to its plays, or to its faults.
+//! From the bytes of a text to its plays, or to its errors.
 #![tactic(auto)]
 
 mod argv;

@@ -20,12 +20,12 @@ use std::alloc::{AllocError, Global};
 #[derive(Drop)]
 pub(crate) struct Handlers<'a> {
     pub names: NameList<'a>,
-    /// Where `handlers` can't be read, none is missing.
+    /// False if `handlers` can't be read; then no handler counts as missing.
     pub readable: bool,
 }
 
-/// The numbers, from 0, of the handlers that a task notifies, in the order in which it names them. Each name that is no
-/// handler's is told once.
+/// Returns the indexes, from 0, of the handlers that a task notifies, in the order in which it names them. Each name
+/// without a handler is reported once.
 pub(crate) fn read_notified(
     faults: &mut FaultCollector,
     place: Place,
@@ -86,7 +86,7 @@ fn check_one<'a>(
     }
 }
 
-/// A name that is no handler's, and that the task has named before, is told already.
+/// Reports a name without a handler, unless the task has named it before.
 fn check_name<'a>(
     faults: &mut FaultCollector,
     place: Place,

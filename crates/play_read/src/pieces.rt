@@ -1,4 +1,4 @@
-//! Pieces of a text between single blanks.
+//! Pieces of a text between single whitespace characters.
 ghost use Rattle.std.specs.Prelude.{◌≡◌, ◌+◌, ◌<◌, ◌≤◌, [], ◌∷◌, length, take, drop, IfSome};
 ghost use Rattle.playbook_schema.specs.Commands as spec;
 ghost use Rattle.play_read.specs.Pieces.{piece_length, pieces_left, IsOpenBelow};
@@ -6,7 +6,8 @@ ghost use Rattle.play_read.specs.Pieces.{piece_length, pieces_left, IsOpenBelow}
 use crate::holes::hole_behind;
 use text_syntax::is_blank;
 
-/// The first piece, and the text behind the blank that ends it. In fewer bytes than `tail` at its end no hole is closed.
+/// Returns the first piece, and the text after the whitespace that ends it. Any end of the text shorter than `tail`
+/// contains no `}}`.
 pub(crate) fn cut_piece(text: &str, tail: usize) -> (&str, Option<&str>)
     requires { IsOpenBelow tail text.now }
     ensures pieces { spec.pieces 0 [] text.now ≡ result.0.now ∷ pieces_left result.1 }
@@ -21,7 +22,7 @@ pub(crate) fn cut_piece(text: &str, tail: usize) -> (&str, Option<&str>)
     (piece, Some(text.split_at(length + 1).1))
 }
 
-/// How many bytes stand before the first blank outside holes.
+/// Returns how many bytes precede the first whitespace outside placeholders.
 fn count_piece(bytes: &[u8], tail: usize) -> usize
     requires { IsOpenBelow tail bytes.now }
     ensures number { result ≡ piece_length 0 bytes.now }

@@ -1,4 +1,4 @@
-//! A play, whole.
+//! Reading a complete play.
 #![tactic(auto, using(playbook_schema::proofs::AddLaws::findings_in_turn))]
 
 ghost use Rattle.std.specs.Prelude.{◌≡◌, ◌+◌, ◌++◌, ◌∷◌, ◌≤◌, [], IfOk, OnOk, length, map, nat_le, nat_lt, true};
@@ -29,7 +29,7 @@ use playbook_schema::{
 use serde_json::Value;
 use std::alloc::AllocError;
 
-/// What a play says apart from its steps.
+/// The parts of a play without its steps.
 #[derive(Drop)]
 pub(crate) struct Settings {
     pattern: String,
@@ -38,15 +38,15 @@ pub(crate) struct Settings {
     on_blocked: OnBlocked,
 }
 
-/// Its steps.
+/// The steps of a play.
 #[derive(Drop)]
 pub(crate) struct Steps {
     tasks: Vec<Step>,
     handlers: Vec<Step>,
 }
 
-/// Adds the play that a value says to the others, where nothing was found, neither before nor in it. Of a value that is no
-/// object nothing else is told.
+/// Adds the play that a value contains to the others, if no error was found before or in it. If the value is not an
+/// object, that is its only error.
 pub(crate) fn read_one(
     faults: &mut FaultCollector,
     place: PlayPlace,
@@ -62,7 +62,8 @@ pub(crate) fn read_one(
     read_object(faults, place, play, plays)
 }
 
-/// Its settings come first, then its handlers, then its tasks. Of too many steps nothing is told.
+/// Reads the settings first, then the handlers, then the tasks. If there are too many steps, nothing else about them
+/// is reported.
 fn read_object(
     faults: &mut FaultCollector,
     place: PlayPlace,
@@ -92,7 +93,7 @@ fn read_object(
     Ok(())
 }
 
-/// What a play says apart from its steps, and whether it has any that can be read.
+/// Reads the parts of a play without its steps, and checks whether it has steps that can be read.
 fn read_front(
     faults: &mut FaultCollector,
     place: Place,

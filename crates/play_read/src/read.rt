@@ -1,4 +1,4 @@
-//! From the bytes of a text to its plays, or to its faults.
+//! From the bytes of a text to its plays, or to its errors.
 ghost use Rattle.std.specs.Prelude.{◌≡◌, ◌∷◌, [], Some, IfOk, IfErr, IsUtf8, MatchOption, MatchResult, true};
 ghost use Rattle.std.specs.List.{AllZip};
 ghost use Rattle.serde_json.specs.Read.{read};
@@ -17,10 +17,10 @@ use playbook_schema::{FaultCollector, Flaw, Place, PlayFault, Told};
 use serde_json::Value;
 use std::alloc::{AllocError, Global};
 
-/// The most plays that a file has.
+/// The maximum number of plays in a file.
 const PLAYS_BOUND: usize = 16;
 
-/// The document of a text; none where the text is no JSON.
+/// Returns the document of a text, or `None` if it is not valid JSON.
 fn parse(alloc: Global, text: &[u8]) -> Result<Option<Value>, AllocError>
     ensures { IfOk result (λ found. MatchOption found (IsNoJson text.now)
         (λ document. IsUtf8 text.now × (read text.now ≡ Some (view document)))) }
@@ -32,7 +32,7 @@ fn parse(alloc: Global, text: &[u8]) -> Result<Option<Value>, AllocError>
     }
 }
 
-/// The faults of a text that is no JSON.
+/// Returns the errors of a text that is not valid JSON.
 fn no_json(alloc: Global, most: usize) -> Result<Told, AllocError>
     ensures { IfOk result (λ told. AreTold most (rule NotJson ∷ []) told) }
 {
@@ -41,7 +41,7 @@ fn no_json(alloc: Global, most: usize) -> Result<Told, AllocError>
     Ok(faults.into_told())
 }
 
-/// The plays of a document, or its faults.
+/// Returns the plays of a document, or its errors.
 fn plays_in(
     alloc: Global,
     document: &Value,
@@ -60,7 +60,7 @@ fn plays_in(
     Ok(Err(faults.into_told()))
 }
 
-/// The plays of a text that may have so many, or its faults.
+/// Returns the plays of a text that can have at most `plays`, or its errors.
 fn read_text(
     alloc: Global,
     text: &[u8],
@@ -76,10 +76,11 @@ fn read_text(
     }
 }
 
-/// Reads a playbook of 1 to 16 plays, or finds its faults: at most `most` of them, and how many more there are. What only
-/// follows from another fault is not told: of a text that is no JSON, of too many plays, and of a play or a step that is no
-/// object that is told alone, of too many steps nothing else than that, and no handler is missing where `handlers` can't be
-/// read. It fails for want of memory alone.
+/// Reads a playbook of 1 to 16 plays, or finds its errors: at most `most` of them, and how many more there are.
+/// Errors that only follow from another error are not reported. Invalid JSON and too many plays are each the only
+/// error of the text. A play or a step that is not an object has only that error. With too many steps, nothing else
+/// about the steps is reported. No handler counts as missing if `handlers` can't be read. Fails only if an allocation
+/// fails.
 pub fn plays_or_faults(
     alloc: Global,
     text: &[u8],
@@ -90,8 +91,8 @@ pub fn plays_or_faults(
     read_text(alloc, text, PLAYS_BOUND, most)
 }
 
-/// Reads a playbook of 1 to 16 plays. A text whose checks are all kept is refused for want of memory alone; of several
-/// faults the first is told.
+/// Reads a playbook of 1 to 16 plays. Of several errors, the first is returned. A valid text is rejected only if an
+/// allocation fails.
 pub fn read_plays(alloc: Global, text: &[u8]) -> Result<Vec<Play>, PlayFault>
     ensures ok { IfOk result (λ plays. IsReadAs 16 text.now plays.items) }
     ensures err { IfErr result (IsTrueOf 16 text.now) }
@@ -99,7 +100,7 @@ pub fn read_plays(alloc: Global, text: &[u8]) -> Result<Vec<Play>, PlayFault>
     plays_or_first(alloc, text, PLAYS_BOUND)
 }
 
-/// Reads a playbook of one play, as `read_plays` does; a second play is one too many.
+/// Reads a playbook of one play, as `read_plays` does. A second play is an error.
 pub fn read_play(alloc: Global, text: &[u8]) -> Result<Play, PlayFault>
     ensures ok { IfOk result (λ play. IsReadAs 1 text.now (play ∷ [])) }
     ensures err { IfErr result (IsTrueOf 1 text.now) }

@@ -1,4 +1,4 @@
-//! From a value to a step: each key is read by a function of its own.
+//! From a value to a step: each key is read by its own function.
 #![tactic(auto, using(playbook_schema::proofs::AddLaws::findings_in_turn))]
 
 ghost use Rattle.std.specs.Prelude.{◌≡◌, [], IfOk, OnOk, option_and_then, option_map, string_bytes, unwrap_or};
@@ -25,7 +25,7 @@ use playbook_schema::{
 use serde_json::Value;
 use std::alloc::{AllocError, Global};
 
-/// A step that says nothing yet. It takes no memory.
+/// Creates an empty step. Does not allocate.
 pub(crate) fn blank_step(alloc: Global) -> Step
     ensures { result.notify.items ≡ [] }
 {
@@ -41,8 +41,8 @@ pub(crate) fn blank_step(alloc: Global) -> Step
     }
 }
 
-/// Reads a step, apart from the handlers that it notifies, into one that notifies nobody yet. A step is large, so it is
-/// filled where it stands.
+/// Reads a step, without the handlers that it notifies, into one that notifies no handler yet. A step is large, so it
+/// is filled in place.
 pub(crate) fn read_step(
     faults: &mut FaultCollector,
     place: StepPlace,
@@ -99,7 +99,7 @@ fn read_head(
     Ok(())
 }
 
-/// A text of one's own.
+/// Copies a string.
 fn copied(alloc: Global, text: Option<&str>) -> Result<Option<String>, AllocError>
     ensures { IfOk result (λ copy. option_map string_bytes copy ≡ option_map (λ lent. lent.now) text.entry) }
 {
@@ -109,7 +109,7 @@ fn copied(alloc: Global, text: Option<&str>) -> Result<Option<String>, AllocErro
     }
 }
 
-/// Each condition is parsed once.
+/// Reads the conditions of a step; each is parsed once.
 fn read_conditions(
     faults: &mut FaultCollector,
     place: Place,

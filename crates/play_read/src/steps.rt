@@ -15,7 +15,7 @@ pub(crate) fn is_object(value: &Value) -> bool
     value.is_object()
 }
 
-/// The tasks of a play; none where `tasks` is missing or no list.
+/// Returns the tasks of a play; none if `tasks` is missing or not a list.
 pub(crate) fn tasks_of(play: &Value) -> &[Value]
     ensures { map view result.now ≡ spec.tasks_in (view play.now) }
 {
@@ -25,7 +25,7 @@ pub(crate) fn tasks_of(play: &Value) -> &[Value]
     }
 }
 
-/// The handlers of a play; none where `handlers` is missing or no list.
+/// Returns the handlers of a play; none if `handlers` is missing or not a list.
 pub(crate) fn handlers_of(play: &Value) -> &[Value]
     ensures { map view result.now ≡ spec.handlers_in (view play.now) }
 {
@@ -44,7 +44,7 @@ fn elements(value: &Value) -> &[Value]
     }
 }
 
-/// Whether `handlers`, where it is given, is null or a list.
+/// Returns whether `handlers` is missing, null or a list.
 pub(crate) fn are_readable(play: &Value) -> bool
     ensures { result ≡ spec.are_readable (get handlers_key (view play.now)) }
 {

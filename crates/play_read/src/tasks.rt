@@ -20,7 +20,7 @@ use playbook_schema::{FaultCollector, Place, PlayPlace, StepList, StepPlace};
 use serde_json::Value;
 use std::alloc::AllocError;
 
-/// Reads a task into a step that notifies nobody yet.
+/// Reads a task into a step that notifies no handler yet.
 fn read_one(
     faults: &mut FaultCollector,
     place: StepPlace,
@@ -39,7 +39,7 @@ fn read_one(
     Ok(())
 }
 
-/// The tasks of a play with so many handlers, of these names; there is room for the handlers behind them.
+/// Returns the tasks of a play with these handlers. The result has room for `behind` handlers after the tasks.
 pub(crate) fn read_tasks(
     faults: &mut FaultCollector,
     play: PlayPlace,

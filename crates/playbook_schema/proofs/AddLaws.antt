@@ -1,4 +1,4 @@
--- Checks that are looked at one after another.
+-- Checks in sequence.
 use Rattle.std.proofs.Common.{◌≡◌, ℕ, ◌+◌, ◌<◌, ◌≤◌, Bool, true, Option, Some, List, [], ◌∷◌, ◌++◌, length, get_or, drop, map, flat_map, refl, sym, ap, ◌∙◌, subst, inl, inr, append-nil}
 use Rattle.std.proofs.lemmas.Bool.{and_parts, eqb-true, eq-eqb, and_from}
 use Rattle.std.proofs.lemmas.List.{map-append}
@@ -39,7 +39,7 @@ pub adds_four : (at : Path) (t0 t1 t2 t3 t4 : T) (a b c d all : List Check) → 
 adds_four at t0 t1 t2 t3 t4 a b c d all p q r s whole =
     adds_two at t0 t1 t4 a (b ++ (c ++ d)) all p (adds_three at t1 t2 t3 t4 b c d (b ++ (c ++ d)) q r s refl) whole
 
--- rules alone
+-- only rules
 pub adds_rules : (at : Path) (t0 t1 t2 : T) (a b all : List Breach) → Adds at t0 t1 (map Broken a) → Adds at t1 t2 (map Broken b) → a ++ b ≡ all → Adds at t0 t2 (map Broken all)
 adds_rules at t0 t1 t2 a b all p q whole =
     adds_two at t0 t1 t2 (map Broken a) (map Broken b) (map Broken all) p q (sym (map-append Broken a b) ∙ ap (map Broken) whole)
@@ -49,7 +49,7 @@ adds_kept at t kept breach is = adds_none at t (map Broken (unless kept breach))
 
 pub ruleset findings_in_turn = (adds_none, adds_same, adds_two, adds_three, adds_four, adds_rules)
 
--- one rule that is broken, and one text that is asked
+-- one broken rule, and one string that is checked
 module _ (at : Path) (t u : T) where
   pub adds_broken : (breach found : Breach) → found ≡ breach_in at breach → u ≡ with_breaches t (rule found ∷ []) → Adds at t u (Broken breach ∷ [])
   adds_broken breach found same is = record {
@@ -65,7 +65,7 @@ module _ (at : Path) (t u : T) where
 pub adds_silent : (at : Path) (t : T) (spot : Spot) (key : Name) (text : List ℕ) → IsCondition text → Adds at t t (Asked spot key text ∷ [])
 adds_silent at t spot key text good = record { told = []; tells = tells_one (Asked spot key text) [] (inl (good, refl)); is = sym (with_none t) }
 
--- seen from the top value
+-- relative to the top value
 breach_top : (breach : Breach) → breach_in [] breach ≡ breach
 breach_top rules.NotJson = refl
 breach_top (rules.BadShape path) = refl
@@ -90,7 +90,7 @@ adds_inside at t u checks adds = record {
   is = adds.is;
 }
 
--- where nothing is told in the end, nothing was told before, and all is kept
+-- if nothing is reported in the end, nothing was reported before, and all checks pass
 module _ (at : Path) (t u : T) (checks : List Check) (adds : Adds at t u checks) (silent : is_silent u ≡ true) where
   parts : (adds.told ≡ []) × (length t.told ≡ 0) × (t.more ≡ 0)
   parts =
@@ -103,7 +103,7 @@ module _ (at : Path) (t u : T) (checks : List Check) (adds : Adds at t u checks)
   pub kept_in_silence : AllKept checks
   kept_in_silence = kept_from at checks (kept_where_silent (all_in at checks) (subst (Tells (all_in at checks)) parts.0 adds.tells))
 
--- what is left to be looked at of all that is
+-- what remains of all that is checked
 pub record Leads (at : Path) (old now : T) (left whole : List Check) : Type 0 where
   pub adds : (t : T) → Adds at now t left → Adds at old t whole
   pub kept : AllKept whole → AllKept left

@@ -1,4 +1,4 @@
--- Lists of checks: which are kept, and what is told of the others.
+-- Lists of checks: which pass, and what is reported of the others.
 use Rattle.std.proofs.Common.{◌≡◌, ◌∙◌, List, [], ◌∷◌, ◌++◌, ap, sym, subst, map, inl, inr, refl, append_assoc, append-nil}
 use Rattle.playbook_schema.specs.Breaches.{Breach, Check, Broken, Asked, all_in}
 use Rattle.playbook_schema.specs.Checks.{Named, rule, condition, AllKept, IsFirst}
@@ -16,7 +16,7 @@ pub kept_rules : (broken : List Breach) → AllKept (map Broken broken) → brok
 kept_rules [] kept = refl
 kept_rules (breach ∷ broken) kept = absurd kept
 
--- seen from where they stand they are the same checks
+-- relative to their place, they are the same checks
 pub kept_from : (at : Path) (checks : List Check) → AllKept (all_in at checks) → AllKept checks
 kept_from at [] kept = tt
 kept_from at (Broken breach ∷ checks) kept = absurd kept
@@ -31,7 +31,7 @@ no_one first rest parts one = let is = parts ∙ ap (λ (l : List Named). l ++ r
 same_first : (named : Named) (later first rest : List Named) (one : Named) → named ∷ later ≡ first ++ rest → first ≡ one ∷ [] → named ≡ one
 same_first named later first rest one parts is = let same = parts ∙ ap (λ (l : List Named). l ++ rest) is in cc
 
--- nothing is told only of checks that are all kept
+-- nothing is reported only if all checks pass
 pub kept_where_silent : (checks : List Check) → Tells checks [] → AllKept checks
 kept_where_silent [] told = tt
 kept_where_silent (Broken breach ∷ checks) told =
@@ -39,7 +39,7 @@ kept_where_silent (Broken breach ∷ checks) told =
 kept_where_silent (Asked spot key text ∷ checks) told =
     elim told.is [ inl good ↦ (good.0, kept_where_silent checks (subst (Tells checks) (sym (behind_none told.first told.rest [] told.parts good.1)) told.others)) | inr bad ↦ absurd (no_one told.first told.rest told.parts bad.tells) ]
 
--- what is told first is of the first check that is not kept
+-- the first error reported is that of the first check that fails
 pub first_told : (checks : List Check) (named : Named) (later : List Named) → Tells checks (named ∷ later) → IsFirst named checks
 first_told [] named later told = absurd (cc)
 first_told (Broken breach ∷ checks) named later told =
@@ -47,7 +47,7 @@ first_told (Broken breach ∷ checks) named later told =
 first_told (Asked spot key text ∷ checks) named later told =
     elim told.is [ inl good ↦ inr (good.0, first_told checks named later (subst (Tells checks) (sym (behind_none told.first told.rest (named ∷ later) told.parts good.1)) told.others)) | inr bad ↦ inl (bad.fault, same_first named later told.first told.rest (condition spot key bad.fault) told.parts bad.tells, bad.breaks) ]
 
--- what is told of some checks comes before what is told of those behind them
+-- the errors of some checks come before those of later checks
 pub tells_both : (before after : List Check) (told more : List Named) → Tells before told → Tells after more → Tells (before ++ after) (told ++ more)
 tells_both [] after told more none later = subst (λ (front : List Named). Tells after (front ++ more)) (sym none) later
 tells_both (check ∷ before) after told more some later = record {

@@ -1,4 +1,4 @@
--- Entries that have to pass a test, one after another.
+-- Entries that must pass a test, in sequence.
 use Rattle.std.proofs.Common.{◌≡◌, ℕ, ◌+◌, ◌<◌, Bool, true, false, ◌&&◌, Option, Some, None, List, [], ◌∷◌, ◌++◌, length, get_or, drop, map, refl, ap, ◌∙◌}
 use Rattle.std.specs.List.{list_all}
 use Rattle.std.proofs.lemmas.List.{map-append}
@@ -12,7 +12,7 @@ use Rattle.playbook_schema.specs.Paths.{Path, element}
 use Rattle.playbook_schema.proofs.Lists.{left_at}
 
 module _ (breach : Path → Breach) (keeps : Data → Bool) (at : Path) where
-  -- what is left from an entry on
+  -- the rest from an entry on
   pub entry_left : (list : List Value) (index : ℕ) (item : Value) → index < length list → item ≡ get_or list index item
       → map Broken (bad_from breach keeps at index (map view (drop index list)))
       ≡ map Broken (unless (keeps (view item)) (breach (element at index))) ++ map Broken (bad_from breach keeps at (index + 1) (map view (drop (index + 1) list)))
@@ -37,6 +37,6 @@ module _ (breach : Path → Breach) (keeps : Data → Bool) (at : Path) where
   pass_by value None none = pass_alone (keeps value) (breach at) none
   pass_by value (Some list) none = pass_from 0 list none
 
-  -- where nothing is told, all pass
+  -- if nothing is reported, all pass
   pub entries_pass : (value : Data) → bad_entries breach keeps at value ≡ [] → list_all keeps (listed value) ≡ true
   entries_pass value none = pass_by value (elements_of value) none

@@ -1,4 +1,4 @@
--- Faults and what they name.
+-- Errors and what they name.
 use Rattle.std.proofs.Common.{◌≡◌, ◌∙◌, ℕ, true, Option, Some, None, is_some, ap, refl}
 use Rattle.cond.specs.Faults.{number_of}
 use Rattle.cond.specs.declared.fault.CondFault.{CondFault}

@@ -1,4 +1,4 @@
--- What is seen from a play or a step, and the same seen from the top value.
+-- Locations relative to a play or a step, and relative to the top value.
 use Rattle.std.proofs.Common.{◌≡◌, List, [], ◌∷◌, ◌++◌, decimal, append_assoc, append-nil, refl, sym, ap, ◌∙◌}
 use Rattle.playbook_schema.specs.Breaches as rules
 use Rattle.playbook_schema.specs.Breaches.{Spot, breach_in}

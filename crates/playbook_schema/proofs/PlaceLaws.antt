@@ -1,4 +1,4 @@
--- The first value of a list that is no word.
+-- The first value of a list that is not an argument.
 use Rattle.std.proofs.Common.{◌≡◌, ℕ, ◌+◌, ◌<◌, ◌≤◌, Bool, true, false, Option, Some, None, List, length, get_or, drop, map, option_map, refl, sym, ap, ◌∙◌, arith}
 use Rattle.std.specs.Prelude.{if◌then◌else◌}
 use Rattle.std.proofs.lemmas.List.{drop_all}
@@ -11,7 +11,7 @@ use Rattle.playbook_schema.proofs.Lists.{left_at}
 abbrev behind : ℕ → Option ℕ → Option ℕ
 behind index found = option_map (λ (place : ℕ). place + index) found
 
--- before the index there is none
+-- there is none before the index
 abbrev pub NoneBefore : List Value → ℕ → Type 0
 NoneBefore list index = first_no_word (map view list) ≡ behind index (first_no_word (map view (drop index list)))
 

@@ -9,7 +9,7 @@ use Rattle.playbook_schema.specs.Breaches.{Breach, BadShape, Check, Broken, Aske
 use Rattle.playbook_schema.specs.Entries.{bad_entries}
 use Rattle.playbook_schema.specs.Paths.{Path, under}
 
--- a part of a condition: a truth value, or a text that has to be a condition
+-- a part of a condition: a boolean, or a string that must be a valid condition
 pub data Clause : Type 0 where
   Truth : Bool → Clause
   Text : List ℕ → Clause
@@ -22,7 +22,7 @@ clause_of (number _) = None
 clause_of (array _) = None
 clause_of (object _) = None
 
--- null is as if nothing were given
+-- null counts as a missing value
 abbrev pub clauses_listed : Data → List Data
 clauses_listed value = if is_null value then [] else listed value
 
@@ -33,7 +33,7 @@ clauses_of value = filter_map clause_of (clauses_listed value)
 abbrev pub clauses_at : Name → Data → List Clause
 clauses_at key step = where_given clauses_of (get key step)
 
--- 702: each part that is neither a text nor a truth value; null is as if nothing were given
+-- 702: each part that is neither a string nor a boolean; null counts as a missing value
 abbrev pub is_clause : Data → Bool
 is_clause value = is_some (clause_of value)
 
@@ -44,7 +44,7 @@ abbrev pub asked_of : Spot → Name → Clause → List Check
 asked_of spot key (Truth truth) = []
 asked_of spot key (Text text) = Asked spot key text ∷ []
 
--- first the shapes of all, then each text is to be a condition
+-- the shapes of all parts first, then each string must be a valid condition
 abbrev pub checks_of : Spot → Name → Data → List Check
 checks_of spot key value = map Broken (bad_clauses (under [] key) value) ++ flat_map (asked_of spot key) (clauses_of value)
 

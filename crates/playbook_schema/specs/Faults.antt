@@ -1,4 +1,4 @@
--- Which check a fault names.
+-- The check that an error names.
 use Rattle.std.specs.Prelude.{ℕ, Option, Some, None, List, ⊤, MatchOption, codes, string_bytes}
 use Rattle.cond.specs.Faults as conditions
 use Rattle.cond.specs.declared.fault.CondFault.{CondFault}
@@ -18,7 +18,7 @@ key_name When = codes "when"
 key_name ChangedWhen = codes "changed_when"
 key_name FailedWhen = codes "failed_when"
 
--- the number that is printed
+-- the printed number
 abbrev pub number_of : PlayFault → Option ℕ
 number_of fault.NotJson = Some 701
 number_of (fault.BadShape at) = Some 702
@@ -40,7 +40,7 @@ named_by spot key (cond.Unexpected at) = Some (condition spot key (cond.Unexpect
 named_by spot key (cond.TooDeep at) = Some (condition spot key (cond.TooDeep at))
 named_by spot key (cond.TooLong at) = Some (condition spot key (cond.TooLong at))
 
--- want of memory names nothing
+-- running out of memory names nothing
 abbrev pub named_of : PlayFault → Option Named
 named_of fault.NotJson = Some (rule rules.NotJson)
 named_of (fault.BadShape at) = Some (rule (rules.BadShape (string_bytes at)))
@@ -55,6 +55,6 @@ named_of (fault.BadCondition play step key found) = named_by (spot_at play step)
 named_of (fault.BadBraces play step) = Some (rule (rules.BadBraces (spot_at play step)))
 named_of fault.Memory = None
 
--- the fault names the first check that is not kept, or want of memory
+-- the error names the first check that fails, or an allocation failed
 abbrev pub IsRefusal : PlayFault → List Check → Type 0
 IsRefusal found checks = MatchOption (named_of found) ⊤ (λ named. IsFirst named checks)

@@ -1,4 +1,4 @@
--- Of what the keys are.
+-- The objects whose keys are checked.
 use Rattle.std.specs.Prelude.{List}
 use Rattle.group_tree.specs.Names.{Name}
 use Rattle.playbook_schema.specs.Keys.{play_keys, task_keys, handler_keys}
@@ -12,7 +12,7 @@ keys_of Play = play_keys
 keys_of Task = task_keys
 keys_of Handler = handler_keys
 
--- of the steps of a list
+-- the keys of the steps of a list
 abbrev pub keys_in : StepList → List Name
 keys_in Tasks = task_keys
 keys_in Handlers = handler_keys

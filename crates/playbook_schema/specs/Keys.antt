@@ -1,4 +1,4 @@
--- The keys that a playbook may have.
+-- The keys that a playbook can have.
 use Rattle.std.specs.Prelude.{List, [], ◌∷◌, codes}
 use Rattle.group_tree.specs.Names.{Name}
 pub use Rattle.text_syntax.specs.Keys.{hosts_key}
@@ -51,7 +51,7 @@ ignore_key = codes "ignore_errors"
 abbrev pub notify_key : Name
 notify_key = codes "notify"
 
--- the keys of a play; `name`, `gather_facts` and `connection` may have any value, which has no effect
+-- the keys of a play; `name`, `gather_facts` and `connection` can have any value, which has no effect
 abbrev pub play_keys : List Name
 play_keys =
     hosts_key ∷ serial_key ∷ max_fail_key ∷ on_blocked_key ∷ tasks_key ∷ handlers_key ∷ name_key ∷ codes "gather_facts" ∷ codes "connection" ∷ []
@@ -60,6 +60,6 @@ abbrev pub handler_keys : List Name
 handler_keys =
     name_key ∷ command_key ∷ long_command_key ∷ register_key ∷ when_key ∷ changed_key ∷ failed_key ∷ ignore_key ∷ []
 
--- a task may notify handlers besides
+-- a task can also notify handlers
 abbrev pub task_keys : List Name
 task_keys = notify_key ∷ handler_keys

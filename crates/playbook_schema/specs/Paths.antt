@@ -1,5 +1,5 @@
--- Paths in a text: the keys and the places in lists, from 0, on the way from the top value, joined by `/`; the top value's is
--- empty. What is seen from a play or a step has its path from there, which begins with `/` or is empty.
+-- Paths in a text: the keys and list indexes, from 0, from the top value, joined by `/`. The path of the top value is
+-- empty. A path relative to a play or a step starts with `/` or is empty.
 use Rattle.std.specs.Prelude.{ℕ, Option, Some, None, is_some, List, ◌∷◌, ◌++◌, decimal, if◌then◌else◌}
 use Rattle.serde_json.specs.Data.{Data}
 use Rattle.serde_json.specs.Find.{get}
@@ -11,7 +11,7 @@ use Rattle.playbook_schema.specs.declared.flaw.Below.TheVariants.{Itself, Key, E
 abbrev pub Path : Type 0
 Path = List ℕ
 
--- the value under a key, and the element at a place
+-- the value under a key, and the element at an index
 abbrev pub under : Path → Name → Path
 under path key = path ++ 47 ∷ key
 
@@ -23,11 +23,11 @@ abbrev pub element_or : Path → Option ℕ → Path
 element_or path None = path
 element_or path (Some place) = element path place
 
--- the value under the key, or where it is missing what it is missing in
+-- the value under the key, or the object in which it is missing
 abbrev pub given_path : Path → Name → Data → Path
 given_path path key value = if is_some (get key value) then under path key else path
 
--- what stands below a play or a step
+-- a location below a play or a step
 abbrev pub below : Path → Below → Path
 below path Itself = path
 below path (Key key) = under path key.now

@@ -1,4 +1,4 @@
--- Where plays and steps stand.
+-- The places of plays and steps.
 use Rattle.std.specs.Prelude.{Bool, true, false, None, [], decimal}
 use Rattle.group_tree.specs.Names.{Name}
 use Rattle.playbook_schema.specs.Breaches.{Spot}
@@ -29,7 +29,7 @@ path_at (OfStep place) = step_path place
 abbrev pub step_spot : StepPlace → Spot
 step_spot place = record { play = place.play.told; step = place.number }
 
--- a play itself counts as no step
+-- a play itself has step number 0
 abbrev pub spot_of : Place → Spot
 spot_of Top = record { play = None; step = 0 }
 spot_of (OfPlay place) = record { play = place.told; step = 0 }

@@ -1,5 +1,5 @@
--- A step: the rules that it breaks, each path seen from the step, and what it says. What only follows from another fault is
--- not told.
+-- A step: the rules that it breaks, with paths relative to the step, and its contents. An error that only follows
+-- from another is not reported.
 use Rattle.std.specs.Prelude.{ℕ, Bool, true, false, not, Option, Some, None, is_some, option_and_then, unwrap_or, List, [], ◌∷◌, ◌++◌, map, filter, if◌then◌else◌}
 use Rattle.std.specs.List.{filter_map, flat_map}
 use Rattle.serde_json.specs.Data.{Data}
@@ -19,7 +19,7 @@ use Rattle.playbook_schema.specs.Names.{once, place_of}
 use Rattle.playbook_schema.specs.declared.place.StepList.{StepList}
 use Rattle.playbook_schema.specs.declared.place.StepList.TheVariants.{Tasks, Handlers}
 
--- 703: each key that a play or a step may not have, in the order of their bytes
+-- 703: each key that a play or a step can't have, in byte order
 abbrev pub unknown_entry : List Name → Entry → List Breach
 unknown_entry keys entry = unless (is_known keys entry) (UnknownKey (under [] entry.name))
 
@@ -29,7 +29,7 @@ unknown_key keys value = flat_map (unknown_entry keys) (entries_in value)
 abbrev pub name_in : Data → Option Name
 name_in step = option_and_then as_str (get name_key step)
 
--- 702: a name is no text, or a handler has none
+-- 702: a name is not a string, or a handler has none
 abbrev pub may_be_unnamed : StepList → Bool
 may_be_unnamed Tasks = true
 may_be_unnamed Handlers = false
@@ -41,22 +41,22 @@ bad_name_by list (Some name) = unless (is_text name) (BadShape (under [] name_ke
 abbrev pub bad_name : StepList → Data → List Breach
 bad_name list step = bad_name_by list (get name_key step)
 
--- 702: what a result is registered under is no name
+-- 702: the name of `register` is not valid
 abbrev pub registered : Data → Option Name
 registered value = option_and_then (λ text. if is_name text then Some text else None) (as_str value)
 
 abbrev pub bad_register : Data → List Breach
 bad_register step = where_given (λ value. unless (is_some (registered value)) (BadShape (under [] register_key))) (get register_key step)
 
--- 702: `ignore_errors` is no truth value
+-- 702: `ignore_errors` is not a boolean
 abbrev pub bad_ignore : Data → List Breach
 bad_ignore step = where_given (λ value. unless (is_truth value) (BadShape (under [] ignore_key))) (get ignore_key step)
 
--- 702: each value under `notify` that is no text
+-- 702: each value under `notify` that is not a string
 abbrev pub bad_notify : Data → List Breach
 bad_notify step = where_given (bad_texts (under [] notify_key)) (get notify_key step)
 
--- the handlers that a task notifies, by their names
+-- the handlers that a task notifies, by name
 abbrev pub notified_in : Data → List Name
 notified_in step = where_given texts_in (get notify_key step)
 
@@ -72,18 +72,18 @@ abbrev pub checks_of_keys : StepList → Spot → Data → List Check
 checks_of_keys list spot step =
     checks_of_head list spot step ++ (condition_checks spot step ++ map Broken (bad_ignore step))
 
--- 702: a step is no object; nothing else is told of it
+-- 702: a step is not an object; nothing else is reported of it
 abbrev pub checks_of_step : StepList → Spot → Data → List Check
 checks_of_step list spot step = if is_object step then checks_of_keys list spot step else Broken (BadShape []) ∷ []
 
--- 704: each handler that a task notifies and that isn't there, once
+-- 704: each handler that a task notifies and that does not exist, once
 abbrev pub is_missing : List Name → Name → Bool
 is_missing handlers name = not (is_among name handlers)
 
 abbrev pub missing_names : List Name → List Name → List Breach
 missing_names handlers names = map NoSuchHandler (once [] (filter (is_missing handlers) names))
 
--- none is missing where the play's handlers can't be read
+-- none is missing if the play's handlers can't be read
 abbrev pub missing_handlers : Bool → List Name → Data → List Breach
 missing_handlers readable handlers task = if readable then missing_names handlers (notified_in task) else []
 
@@ -91,7 +91,7 @@ abbrev pub checks_of_task : Bool → List Name → Spot → Data → List Check
 checks_of_task readable handlers spot task =
     checks_of_step Tasks spot task ++ (map Broken (bad_notify task) ++ map Broken (missing_handlers readable handlers task))
 
--- 705: a handler has the name of one before it
+-- 705: a handler has the name of an earlier one
 abbrev pub twice : List Name → Name → List Breach
 twice met name = unless (is_missing met name) (TwiceHandler name)
 
@@ -101,7 +101,7 @@ twice_named met step = where_given (twice met) (name_in step)
 abbrev pub checks_of_handler : List Name → Spot → Data → List Check
 checks_of_handler met spot handler = checks_of_step Handlers spot handler ++ map Broken (twice_named met handler)
 
--- what a step says; handlers that it notifies by their places among these
+-- the contents of a step; the handlers that it notifies are given by their indexes
 pub record WrittenStep : Type 0 where
   pub name : Option Name
   pub words : List Word
@@ -125,6 +125,6 @@ step_of handlers step =
       notify = filter_map (place_of handlers) (notified_in step);
     }
 
--- handlers notify nobody
+-- handlers notify no handler
 abbrev pub handler_of : Data → WrittenStep
 handler_of step = record (step_of [] step) { notify = [] }

@@ -1,4 +1,4 @@
--- What an entry of a list has to be.
+-- What an entry of a list must be.
 use Rattle.std.specs.Prelude.{Bool}
 use Rattle.serde_json.specs.Data.{Data}
 use Rattle.text_syntax.specs.Shapes.{is_text}
@@ -14,7 +14,7 @@ passes Text = is_text
 passes Clause = is_clause
 passes Size = is_size
 
--- the rule that another entry breaks, at its path
+-- the rule that an entry breaks if it fails the test, with its path
 abbrev pub breach_for : Test → Path → Breach
 breach_for Text = BadShape
 breach_for Clause = BadShape

@@ -1,4 +1,4 @@
--- Which rule a flaw names.
+-- The rule that a flaw breaks.
 use Rattle.std.specs.Prelude.{ℕ, List, [], map}
 use Rattle.std.specs.Borrow.{Bor}
 use Rattle.playbook_schema.specs.Breaches as rules
@@ -8,7 +8,7 @@ use Rattle.playbook_schema.specs.Paths.{Path, below, under}
 use Rattle.playbook_schema.specs.declared.flaw.Flaw.{Flaw}
 use Rattle.playbook_schema.specs.declared.flaw.Flaw.TheVariants as flaw
 
--- of the flaw of a play or step at this place, which has this path
+-- the breach of a flaw in a play or step at this place, which has this path
 abbrev pub breach_from : Path → Spot → Flaw → Breach
 breach_from path spot flaw.NotJson = rules.NotJson
 breach_from path spot (flaw.BadShape at) = rules.BadShape (below path at)
@@ -21,10 +21,10 @@ breach_from path spot flaw.ManyPlays = rules.ManyPlays
 breach_from path spot flaw.TooManySteps = rules.TooManySteps
 breach_from path spot flaw.BadBraces = rules.BadBraces spot
 
--- seen from there
+-- likewise relative to the play or step
 abbrev pub breach_at : Spot → Flaw → Breach
 breach_at spot found = breach_from [] spot found
 
--- texts that are lent
+-- borrowed strings
 abbrev pub lent_texts : List (Bor (List ℕ)) → List (List ℕ)
 lent_texts texts = map (λ text. text.now) texts

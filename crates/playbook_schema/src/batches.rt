@@ -22,7 +22,7 @@ use serde_json::Value;
 use std::alloc::{AllocError, Global};
 use text_syntax::listed;
 
-/// The sizes of a play's batches; none where it has no `serial`.
+/// Returns the batch sizes of a play; none if it has no `serial`.
 pub fn read_sizes(
     faults: &mut FaultCollector,
     place: Place,

@@ -1,4 +1,4 @@
-//! The faults that are found, and how many more there are.
+//! The errors found, and how many more there are.
 ghost use Rattle.std.specs.Prelude.{◌≡◌, ◌≢◌, ◌+◌, ◌++◌, ◌∷◌, [], ℕ, List, Some, OnOk, is_some, length, map, nat_lt, true};
 ghost use Rattle.cond.specs.Conditions.{Breaks};
 ghost use Rattle.cond.specs.Faults.{number_of};
@@ -21,7 +21,7 @@ use cond::CondFault;
 use std::alloc::{AllocError, Global};
 use std::marker::Model;
 
-/// Keeps the first faults. Those after them are counted, and nothing is made of them.
+/// Stores the first errors. It only counts those after them.
 #[derive(Drop)]
 pub struct FaultCollector {
     alloc: Global,
@@ -42,7 +42,7 @@ impl Model for FaultCollector {
 }
 
 impl FaultCollector {
-    /// Nothing is found yet; at most `most` faults are kept.
+    /// Creates an empty collector that stores at most `most` errors.
     pub fn new(alloc: Global, most: usize) -> FaultCollector
         ensures { result ≡ nothing_told most }
     {
@@ -54,12 +54,12 @@ impl FaultCollector {
         }
     }
 
-    /// For what is read beside the faults.
+    /// Returns the allocator, for values that are read along with the errors.
     pub fn alloc(&self) -> Global {
         self.alloc
     }
 
-    /// Whether nothing was found.
+    /// Returns whether nothing was found.
     pub fn is_empty(&self) -> bool
         ensures { result ≡ is_silent self.now }
     {
@@ -82,12 +82,12 @@ impl FaultCollector {
     fn count(&mut self) -> Result<(), AllocError>
         ensures { OnOk result (self.new ≡ record self.old { more = self.old.more + 1 }) }
     {
-        // No memory holds a text of so many faults.
+        // No memory holds a text with that many errors.
         self.more = self.more.checked_add(1).ok_or(AllocError)?;
         Ok(())
     }
 
-    /// Keeps a fault, or counts it.
+    /// Stores an error, or counts it.
     fn add_fault(&mut self, fault: PlayFault) -> Result<(), AllocError>
         ensures { (named : Named) → named_of fault ≡ Some named → OnOk result (self.new ≡ with_breaches self.old (named ∷ [])) }
     {
@@ -98,7 +98,7 @@ impl FaultCollector {
         }
     }
 
-    /// The rule is broken there.
+    /// Adds the error at this place.
     pub fn add(&mut self, place: Place, flaw: Flaw<'_>) -> Result<(), AllocError>
         ensures { OnOk result (Adds (path_at place) self.old self.new (Broken (breach_at (spot_of place) flaw.entry) ∷ [])) }
     {
@@ -109,7 +109,7 @@ impl FaultCollector {
         self.keep(fault)
     }
 
-    /// The rule is broken there, unless it is kept.
+    /// Adds the error at this place if the rule is broken.
     pub fn check(&mut self, kept: bool, place: Place, flaw: Flaw<'_>) -> Result<(), AllocError>
         ensures { OnOk result (Adds (path_at place) self.old self.new (map Broken (unless kept (breach_at (spot_of place) flaw.entry)))) }
     {
@@ -119,7 +119,7 @@ impl FaultCollector {
         self.add(place, flaw)
     }
 
-    /// A text under this key of the step there is no condition.
+    /// Adds the error of a string under this key of the step that is not a valid condition.
     pub fn add_condition(
         &mut self,
         place: Place,
@@ -132,7 +132,7 @@ impl FaultCollector {
         self.add_fault(bad_condition(place, key, fault))
     }
 
-    /// What was found.
+    /// Returns what was found.
     pub fn into_told(self) -> Told
         ensures faults { map named_of result.faults.items ≡ self.told }
         ensures more { result.more ≡ self.more }

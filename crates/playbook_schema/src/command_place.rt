@@ -1,4 +1,4 @@
-//! Where a command has another shape than the format asks for.
+//! Where a command does not have the required shape.
 ghost use Rattle.std.specs.Prelude.{◌≡◌, length, map};
 ghost use Rattle.serde_json.specs.View.{view};
 ghost use Rattle.text_syntax.specs.Shapes as shapes;
@@ -11,8 +11,8 @@ use crate::flaw::Below;
 use serde_json::Value;
 use text_syntax::{elements_of, entries_of};
 
-/// The place of what is wrong with a step's command: the step itself, where it has neither form of the key or both; else the
-/// value under the key, or the part of it.
+/// Returns the place of the error in a step's command. It is the step itself if the step has neither form of the key
+/// or both. Otherwise it is the value under the key, or a part of it.
 pub fn place_of_bad_command<'a>(step: &'a Value) -> Below<'a>
     ensures { (at : Path) → below at result ≡ spec.bad_path at (view step.now) }
 {
@@ -73,7 +73,7 @@ fn place_of_no_word(list: &[Value]) -> Option<usize>
     None
 }
 
-/// How many entries an object has; any other value has none.
+/// Returns how many entries an object has; any other value has none.
 pub fn count_entries(value: &Value) -> usize
     ensures { result ≡ length (shapes.entries_in (view value.now)) }
 {
@@ -83,7 +83,7 @@ pub fn count_entries(value: &Value) -> usize
     }
 }
 
-/// Whether the value is a word of a command: a text, or a whole number.
+/// Returns whether the value is an argument of a command: a string or an integer.
 pub fn is_word(value: &Value) -> bool
     ensures { result ≡ commands.is_word (view value.now) }
 {

@@ -1,4 +1,4 @@
-//! Lists of which each entry has to pass a test.
+//! Lists of which each entry must pass a test.
 #![tactic(auto, using(crate::proofs::AddLaws::findings_in_turn))]
 
 ghost use Rattle.std.specs.Prelude.{◌≡◌, [], OnOk, map};
@@ -19,7 +19,7 @@ use serde_json::Value;
 use std::alloc::AllocError;
 use text_syntax::elements_of;
 
-/// What an entry has to be.
+/// What an entry must be.
 #[derive(Clone, Copy, Debug)]
 pub enum Test {
     Text,
@@ -28,7 +28,7 @@ pub enum Test {
 }
 
 impl Test {
-    /// The flaw of another entry.
+    /// Returns the error of an entry that fails the test.
     fn flaw<'a>(self, at: Below<'a>) -> Flaw<'a>
         ensures { (path : Path) (spot : Spot) → breach_from path spot result ≡ breach_for self (below path at.entry) }
     {
@@ -82,7 +82,7 @@ fn check_each(
     Ok(())
 }
 
-/// Checks each entry under this key of a play or a step, or the value there where it is no list.
+/// Checks each entry under this key of a play or a step, or the value itself if it is not a list.
 pub fn check_entries(
     faults: &mut FaultCollector,
     place: Place,

@@ -1,4 +1,4 @@
-//! Why a text is no playbook.
+//! Why a text is not a valid playbook.
 ghost use Rattle.std.specs.Prelude.{◌≡◌};
 ghost use Rattle.playbook_schema.specs.Faults.{number_of};
 
@@ -7,39 +7,40 @@ use cond::CondFault;
 use std::alloc::{AllocError, AllocFailed};
 use thiserror::Error;
 
-/// Why a text is no playbook: the first rule that it breaks. A path `at` is the keys and the places in lists, from 0, on
-/// the way from the top value, joined by `/`; the top value's is empty. Steps are numbered from 1, tasks first, and so are
-/// plays; `play` is told where the text has several.
+/// Why a text is not a valid playbook: the first rule that it breaks. A path `at` consists of the keys and list
+/// indexes, from 0, from the top value, joined by `/`. The path of the top value is empty. Steps are numbered from 1,
+/// tasks first. Plays are numbered from 1 too; `play` is given only if the file has several.
 #[derive(Debug, PartialEq, Eq, Drop, Error)]
 pub enum PlayFault {
     #[error("the text is no JSON")]
     NotJson,
-    /// A value has another shape than the format asks for, or a key that has to be there is missing.
+    /// A value does not have the required shape, or a required key is missing.
     #[error("not of the shape that the format asks for: {at:?}")]
     BadShape {
         at: String,
     },
-    /// A play or a step has a key that the format does not name.
+    /// A play or a step has a key that the format does not define.
     #[error("a key that the format does not name: {at:?}")]
     UnknownKey {
         at: String,
     },
-    /// A task notifies a handler that the play hasn't.
+    /// A task notifies a handler that the play does not have.
     #[error("no handler of this name: {name:?}")]
     NoSuchHandler {
         name: String,
     },
-    /// A handler has the name of one before it.
+    /// A handler has the name of an earlier one.
     #[error("a second handler of this name: {name:?}")]
     TwiceHandler {
         name: String,
     },
-    /// A size of `serial` is neither a whole number from 0 to 65,535 nor a percentage, or there are none or over 64.
+    /// A size of `serial` is not an integer from 0 to 65,535, such an integer in digits, or a percentage. Or `serial`
+    /// has no size or over 64.
     #[error("no size of a batch: {at:?}")]
     BadSerial {
         at: String,
     },
-    /// `max_fail_percentage` is no whole number from 0 to 100.
+    /// `max_fail_percentage` is not an integer from 0 to 100.
     #[error("not a whole number from 0 to 100: {at:?}")]
     BadPercent {
         at: String,
@@ -49,7 +50,7 @@ pub enum PlayFault {
     /// A play has more than 256 tasks and handlers.
     #[error("too many steps")]
     TooManySteps,
-    /// A text under this key of a step is no condition.
+    /// A string under this key of a step is not a valid condition.
     #[error("step {step}: {fault}")]
     BadCondition {
         play: Option<usize>,
@@ -57,7 +58,7 @@ pub enum PlayFault {
         key: ConditionKey,
         fault: CondFault,
     },
-    /// In a word of a step's command an opening brace begins no hole.
+    /// In an argument of a step's command, an opening brace starts no placeholder.
     #[error("step {step}: braces that begin no hole")]
     BadBraces {
         play: Option<usize>,
@@ -68,7 +69,7 @@ pub enum PlayFault {
 }
 
 impl PlayFault {
-    /// The number of the rule that is broken; want of memory breaks none.
+    /// Returns the error number. Running out of memory has none.
     pub fn number(&self) -> Option<u16>
         ensures { result ≡ number_of self.now }
     {

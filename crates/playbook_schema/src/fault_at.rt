@@ -1,4 +1,4 @@
-//! From a rule that is broken at a place to the fault that tells it.
+//! From a broken rule and its place to the error that reports it.
 ghost use Rattle.std.specs.Prelude.{◌≡◌, Some, IfOk, string_bytes};
 ghost use Rattle.playbook_schema.specs.Breaches.{BadBraces};
 ghost use Rattle.playbook_schema.specs.Checks.{rule};
@@ -52,7 +52,7 @@ fn bad_braces(place: Place) -> PlayFault
     }
 }
 
-/// A text under this key of the step there is no condition.
+/// Returns the error of a string under this key of the step that is not a valid condition.
 pub(crate) fn bad_condition(place: Place, key: ConditionKey, fault: CondFault) -> PlayFault
     ensures { named_of result ≡ named_by (spot_of place) (key_name key) fault }
 {

@@ -1,7 +1,7 @@
-//! What is wrong with a part of a playbook.
+//! The errors of a part of a playbook.
 
-/// Where something stands, seen from a play or a step: it is the play or step itself, the value under a key, an element of
-/// the list there, or the same below a parameter of a step's command.
+/// A location relative to a play or a step: the play or step itself, the value under a key, or an element of the list
+/// there. It can also be the same below a parameter of a step's command.
 #[derive(Clone, Copy, Debug, PartialEq, Eq)]
 pub enum Below<'a> {
     Itself,

@@ -1,4 +1,4 @@
-//! The keys of a step that hold conditions.
+//! The keys of a step that contain conditions.
 ghost use Rattle.std.specs.Prelude.{◌≡◌};
 ghost use Rattle.playbook_schema.specs.Faults.{key_name};
 
@@ -10,7 +10,7 @@ pub enum ConditionKey {
 }
 
 impl ConditionKey {
-    /// The key as the text writes it.
+    /// Returns the key as written in the text.
     pub fn name(self) -> &'static str
         ensures { result.now ≡ key_name self }
     {

@@ -1,4 +1,4 @@
-//! The keys that a play, a task or a handler may have.
+//! The keys that a play, a task or a handler can have.
 #![tactic(auto, using(crate::proofs::AddLaws::findings_in_turn))]
 
 ghost use Rattle.std.specs.Prelude.{◌≡◌, OnOk, map};
@@ -18,7 +18,7 @@ use serde_json::{Map, Value};
 use std::alloc::AllocError;
 use text_syntax::entries_of;
 
-/// Of what the keys are.
+/// The objects whose keys are checked.
 #[derive(Clone, Copy, Debug, PartialEq, Eq)]
 pub enum Keys {
     Play,
@@ -71,7 +71,7 @@ fn is_handler_key(key: &str) -> bool
         || key == "ignore_errors"
 }
 
-/// Checks that a play or a step has none but these keys.
+/// Checks that a play or a step has only these keys.
 pub fn check_keys(
     faults: &mut FaultCollector,
     place: Place,

@@ -1,4 +1,4 @@
-//! What a playbook may say: each key with its rule, what it says, and the faults that it makes.
+//! The schema of a playbook: the rule of each key, its value, and its errors.
 #![tactic(auto)]
 
 mod batches;

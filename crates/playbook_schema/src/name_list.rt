@@ -7,14 +7,14 @@ ghost use Rattle.playbook_schema.specs.Names as spec;
 use indexmap::IndexSet;
 use std::alloc::{AllocError, Global};
 
-/// Names, each once, in the order in which they were met.
+/// Names, each once, in order of first appearance.
 #[derive(Drop)]
 pub struct NameList<'a> {
     names: IndexSet<&'a str>,
 }
 
 impl<'a> NameList<'a> {
-    /// No names. It takes no memory.
+    /// Creates an empty list. Does not allocate.
     pub fn new(alloc: Global) -> NameList<'a>
         ensures { known result ≡ [] }
     {
@@ -23,7 +23,7 @@ impl<'a> NameList<'a> {
         }
     }
 
-    /// Adds a name behind the others, and says whether it is new; one that stands already isn't added again.
+    /// Adds a name after the others unless the list contains it, and returns whether it is new.
     pub fn add(&mut self, name: &'a str) -> Result<bool, AllocError>
         ensures new { IfOk result (λ new. new ≡ not (is_among name.now (known self.old))) }
         ensures names { OnOk result (known self.new ≡ known self.old ++ spec.once_more (known self.old) name.now) }
@@ -32,7 +32,7 @@ impl<'a> NameList<'a> {
         Ok(self.names.insert(name)?)
     }
 
-    /// The place, from 0, of this name.
+    /// Returns the index of this name, from 0.
     pub fn place_of(&self, name: &str) -> Option<usize>
         ensures place { result ≡ spec.place_of (known self.now) name.now }
         ensures found { is_some result ≡ is_among name.now (known self.now) }

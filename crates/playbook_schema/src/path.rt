@@ -1,4 +1,4 @@
-//! Paths in the text: keys and places in lists, from 0, joined by `/`.
+//! Paths in the text: keys and list indexes, from 0, joined by `/`.
 ghost use Rattle.std.specs.Prelude.{◌≡◌, IfOk, OnOk, decimal, string_bytes};
 ghost use Rattle.playbook_schema.specs.Paths as spec;
 ghost use Rattle.playbook_schema.specs.Places.{path_at, step_path};
@@ -21,7 +21,7 @@ fn go_to(path: &mut String, place: usize) -> Result<(), AllocError>
     go_under(path, Buffer::new().format(place))
 }
 
-/// The path of the play at this place in the file, from 0.
+/// Returns the path of the play at this index in the file, from 0.
 fn path_of_play(alloc: Global, place: usize) -> Result<String, AllocError>
     ensures { IfOk result (λ path. string_bytes path ≡ decimal place) }
 {
@@ -47,7 +47,7 @@ fn path_of(alloc: Global, place: Place) -> Result<String, AllocError>
     }
 }
 
-/// The path of what stands below a play or a step.
+/// Returns the path of a location below a play or a step.
 pub(crate) fn path_below(
     alloc: Global,
     place: Place,

@@ -22,7 +22,7 @@ use serde_json::Value;
 use std::alloc::{AllocError, Global};
 use text_syntax::{first_part, listed};
 
-/// The pattern of a play's hosts; a list is the hosts of all its patterns.
+/// Returns the host pattern of a play; a list of patterns matches the hosts of all of them.
 pub fn read_pattern(
     faults: &mut FaultCollector,
     place: Place,
@@ -39,7 +39,7 @@ pub fn read_pattern(
     pattern_of(faults.alloc(), hosts)
 }
 
-/// Checks that the value is a text or a list of texts with at least one name in it.
+/// Checks that the value is a string or a list of strings with at least one name in it.
 fn check_pattern(faults: &mut FaultCollector, place: Place, hosts: &Value) -> Result<(), AllocError>
     ensures { OnOk result (Adds (path_at place) faults.old faults.new (map Broken (spec.bad_pattern (under [] hosts_key) (view hosts.now)))) }
 {
@@ -94,7 +94,7 @@ fn with_commas(alloc: Global, texts: &[&str]) -> Result<String, AllocError>
     }
 }
 
-/// The pattern, and each further text behind a comma.
+/// Appends each further string after a comma.
 fn continued(start: String, texts: &[&str]) -> Result<String, AllocError>
     ensures { IfOk result (λ pattern. string_bytes pattern ≡ string_bytes start ++ flat_map spec.behind_comma (lent_texts texts.now)) }
 {

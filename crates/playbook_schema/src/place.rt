@@ -1,4 +1,4 @@
-//! Where in the text something stands.
+//! Places in the text.
 ghost use Rattle.std.specs.Prelude.{◌≡◌};
 ghost use Rattle.playbook_schema.specs.KeyLists.{keys_of, keys_in};
 ghost use Rattle.playbook_schema.specs.Places.{key_of, spot_of};
@@ -6,14 +6,14 @@ ghost use Rattle.playbook_schema.specs.Steps.{may_be_unnamed};
 
 use crate::keys::Keys;
 
-/// A play by its place in the file, from 0, and its number, from 1, where the file has several.
+/// A play by its index in the file, from 0, and its number, from 1, if the file has several.
 #[derive(Clone, Copy, Debug)]
 pub struct PlayPlace {
     pub index: usize,
     pub told: Option<usize>,
 }
 
-/// Which of a play's lists a step stands in.
+/// The list of a play that contains a step.
 #[derive(Clone, Copy, Debug)]
 pub enum StepList {
     Tasks,
@@ -30,7 +30,7 @@ impl StepList {
         }
     }
 
-    /// The keys that its steps may have.
+    /// Returns the keys that its steps can have.
     pub fn keys(self) -> Keys
         ensures { keys_of result ≡ keys_in self }
     {
@@ -47,7 +47,7 @@ impl StepList {
     }
 }
 
-/// A step by its place in its list, from 0, and its number in the play, from 1, tasks first.
+/// A step by its index in its list, from 0, and its number in the play, from 1, tasks first.
 #[derive(Clone, Copy, Debug)]
 pub struct StepPlace {
     pub play: PlayPlace,
@@ -56,7 +56,7 @@ pub struct StepPlace {
     pub number: usize,
 }
 
-/// Where something that breaks a rule stands: it is the top value, a play, or a step.
+/// The place of a broken rule: the top value, a play, or a step.
 #[derive(Clone, Copy, Debug)]
 pub enum Place {
     Top,
@@ -65,7 +65,7 @@ pub enum Place {
 }
 
 impl Place {
-    /// The number of its play, where the file has several.
+    /// Returns the number of its play, if the file has several.
     pub(crate) fn told_play(self) -> Option<usize>
         ensures { result ≡ (spot_of self).play }
     {
@@ -76,7 +76,7 @@ impl Place {
         }
     }
 
-    /// The step's number in the play; 0 of what is no step.
+    /// Returns the step's number in the play, or 0 if this is not a step.
     pub(crate) fn step(self) -> usize
         ensures { result ≡ (spot_of self).step }
     {

@@ -17,7 +17,8 @@ use serde_json::Value;
 use std::alloc::AllocError;
 use text_syntax::is_name;
 
-/// The name under which a step's result is registered: a letter or `_`, then letters, digits and `_`, and no reserved word.
+/// Returns the name under which a step's result is registered. It is a letter or `_`, then letters, digits and `_`,
+/// and not a reserved word.
 pub fn read_register<'a>(
     faults: &mut FaultCollector,
     place: Place,

@@ -21,7 +21,7 @@ use serde_json::Value;
 use std::alloc::AllocError;
 use text_syntax::whole_number;
 
-/// The percentage of a batch past which failed hosts end a play.
+/// Returns the percentage of failed hosts in a batch above which the play ends.
 pub fn read_percent(
     faults: &mut FaultCollector,
     place: Place,
@@ -44,7 +44,7 @@ fn percent_of(value: &Value) -> Option<Percentage>
     share_of(whole_number(value, 100)?)
 }
 
-/// What a play does where a group has no room; one that doesn't say it stops.
+/// Returns what a play does if a group has no room; by default, it stops.
 pub fn read_mode(
     faults: &mut FaultCollector,
     place: Place,

@@ -9,7 +9,7 @@ use play_model::Size;
 use serde_json::Value;
 use text_syntax::{number_in_digits, percentage_in, whole_number};
 
-/// The size that a value says: a whole number from 0 to 65,535, a text of 1 to 5 digits, or a percentage.
+/// Returns the size that a value contains: an integer from 0 to 65,535, a string of 1 to 5 digits, or a percentage.
 pub(crate) fn size_of(value: &Value) -> Option<Size>
     ensures { result ≡ spec.size_of (view value.now) }
 {
@@ -20,7 +20,7 @@ pub(crate) fn size_of(value: &Value) -> Option<Size>
     }
 }
 
-/// Whether the value is a size. It takes no memory.
+/// Returns whether the value is a valid size. Does not allocate.
 pub(crate) fn is_size(value: &Value) -> bool
     ensures { result ≡ spec.is_size (view value.now) }
 {
@@ -36,7 +36,7 @@ fn size_in_text(text: &str) -> Option<Size>
     }
 }
 
-/// The percentage of this number, which is at most 100.
+/// Returns the percentage with this number, which is at most 100.
 pub(crate) fn share_of(number: u16) -> Option<Percentage>
     requires { number ≤ 100 }
     ensures { result ≡ Some number }

@@ -14,7 +14,7 @@ use crate::place::{Place, StepPlace};
 use serde_json::Value;
 use std::alloc::AllocError;
 
-/// The name of a step, which a handler has to have.
+/// Returns the name of a step; a handler must have one.
 pub fn read_name<'a>(
     faults: &mut FaultCollector,
     place: StepPlace,
@@ -34,7 +34,7 @@ pub fn read_name<'a>(
     Ok(text)
 }
 
-/// The name that a step has, if any.
+/// Returns the name of a step, if it has one.
 pub fn name_in(step: &Value) -> Option<&str>
     ensures { option_map (λ name. name.now) result ≡ spec.name_in (view step.now) }
 {

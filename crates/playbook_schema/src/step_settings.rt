@@ -19,7 +19,7 @@ use serde_json::Value;
 use std::alloc::AllocError;
 use text_syntax::listed;
 
-/// Whether a host goes on after a failure of the step.
+/// Returns whether a host continues after a failure of the step.
 pub fn read_ignore(
     faults: &mut FaultCollector,
     place: Place,
@@ -40,7 +40,7 @@ pub fn read_ignore(
     Ok(ignores.unwrap_or(false))
 }
 
-/// The names of the handlers that a task notifies, among other values where it has such.
+/// Returns the names of the handlers that a task notifies, including any invalid values among them.
 pub fn read_notify<'a>(
     faults: &mut FaultCollector,
     place: Place,

@@ -1,4 +1,4 @@
-//! A text, or a list of texts.
+//! A string, or a list of strings.
 ghost use Rattle.std.specs.Prelude.{◌≡◌, ◌++◌, IfOk, map};
 ghost use Rattle.std.specs.List.{filter_map, list_all};
 ghost use Rattle.serde_json.specs.Find.{as_str};
@@ -22,7 +22,7 @@ pub(crate) fn are_texts(list: &[Value]) -> bool
     true
 }
 
-/// The texts of a list, or a text alone. It fails for want of memory alone.
+/// Returns the strings of a list, or a single string. Fails only if an allocation fails.
 pub(crate) fn texts_in<'a>(alloc: Global, value: &'a Value) -> Result<Vec<&'a str>, AllocError>
     ensures { IfOk result (λ texts. lent_texts texts.items ≡ spec.texts_in (view value.now)) }
 {

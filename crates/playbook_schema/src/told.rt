@@ -1,10 +1,10 @@
-//! What is found in a text.
+//! The result of checking a text.
 ghost use Rattle.std.specs.Prelude.{◌≡◌};
 ghost use Rattle.playbook_schema.specs.ToldFaults.{is_empty};
 
 use crate::fault::PlayFault;
 
-/// The first faults of a playbook's text, in the order in which they are told, and how many more it has.
+/// The first errors of a playbook's text, in the order in which they are reported, and how many more it has.
 #[derive(Debug, Drop)]
 pub struct Told {
     pub faults: Vec<PlayFault>,
@@ -12,7 +12,7 @@ pub struct Told {
 }
 
 impl Told {
-    /// Whether the text has no fault.
+    /// Returns whether the text has no error.
     pub fn is_empty(&self) -> bool
         ensures { result ≡ is_empty self.now }
     {

@@ -1,4 +1,4 @@
-//! The definitions, read against small playbooks: each clause computes.
+//! The definitions, checked on small playbooks: each clause computes.
 #![tactic(auto, unfolding(text_syntax::specs::Words::parts_of, text_syntax::specs::Words::first_parts, text_syntax::specs::Words::part_in, text_syntax::specs::Words::behind_part, text_syntax::specs::Words::plain_length, text_syntax::specs::Words::ref_in, text_syntax::specs::Words::behind_ref, text_syntax::specs::Words::behind_word, text_syntax::specs::Words::is_name, text_syntax::specs::Words::field_named))]
 
 ghost use Rattle.std.specs.Prelude.{◌≡◌, ℕ, Some, None, List, [], ◌∷◌, true, false, codes, map};
@@ -34,8 +34,8 @@ pub fn the_smallest_playbook_is_one_play()
     } ∷ [] }
 {}
 
-/// A list of patterns is their union, a list of sizes one for each batch, a hole is part of its word, and a handler is
-/// named by its place.
+/// A list of patterns is their union, and a list of sizes has one for each batch. A placeholder is part of its
+/// argument, and a handler is identified by its index.
 pub fn each_key_says_its_part()
     ensures asked { checks 16 deploys ≡ breach.Asked (spot_at None 1) (codes "when") (codes "v == 1") ∷ [] }
     ensures play { plays_of deploys ≡ record {
@@ -96,7 +96,8 @@ pub fn sizes_are_numbers_digits_or_shares()
     ensures minus { size_of (string (codes "-1")) ≡ None }
 {}
 
-/// Blanks split words, but not within a hole; an opening that is never closed begins no hole.
+/// Whitespace separates arguments, except inside a placeholder; an opening that is never closed starts no
+/// placeholder.
 pub fn holes_are_not_split()
     ensures one { split (codes "a {{ b c }}d e") ≡ codes "a" ∷ codes "{{ b c }}d" ∷ codes "e" ∷ [] }
     ensures open { split (codes "echo {{ v w") ≡ codes "echo" ∷ codes "{{" ∷ codes "v" ∷ codes "w" ∷ [] }

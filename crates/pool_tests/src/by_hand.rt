@@ -1,4 +1,4 @@
-//! Two workers that take one ticket each, one after the other, and reply in an order that is known.
+//! Two workers that take one ticket each, in sequence, and reply in a known order.
 ghost use Rattle.std.specs.Prelude.{◌≡◌, ◌<◌, ◌≤◌};
 
 use crate::faults::opened;
@@ -16,7 +16,7 @@ use std::thread;
 use std::thread::Threads;
 use test_fleets::{Setting, limited_again, set_up};
 
-/// How long is waited at most, in turns of a look and a yield: some seconds.
+/// The most rounds of checking and yielding to wait: some seconds.
 const TURNS: u32 = 10_000_000;
 
 const PLAY: &str = r#"[{"hosts":"all","tasks":[{"command":"true"}]}]"#;
@@ -32,9 +32,9 @@ const FIVE: [HostId; 5] = [
 /// What two workers do with the first two tickets.
 #[derive(Clone, Copy)]
 struct Plan {
-    /// The first worker finds no memory for an end, at whatever ticket.
+    /// The first worker runs out of memory at the end of every ticket.
     first_wants: bool,
-    /// The second one finds none.
+    /// The second one runs out of memory.
     second_wants: bool,
     /// The second one replies first.
     turned: bool,
@@ -70,7 +70,7 @@ const ALONE: Plan = Plan {
     alone: true,
 };
 
-/// A runner for both workers: programs end well, where the plan doesn't say that memory is wanting.
+/// A runner for both workers. Programs succeed, unless the plan specifies that memory runs out.
 #[derive(Drop)]
 struct Hands {
     plan: Plan,
@@ -121,7 +121,7 @@ impl Hands {
         }
     }
 
-    /// Waits for the turn of the program that began as this one, from 0, and tells whether memory is wanting for its end.
+    /// Waits for the turn of the program that started as this one, from 0, and reports whether memory runs out at its end.
     fn wants(&self, number: u64) -> bool {
         if number == 1 && !self.plan.alone {
             self.wait_for_turn(self.plan.turned);
@@ -133,7 +133,7 @@ impl Hands {
         self.plan.first_wants
     }
 
-    /// Both have a ticket before either replies, and one replies behind the other.
+    /// Both have a ticket before either replies, and they reply in sequence.
     fn wait_for_turn(&self, first: bool) {
         wait_for(&self.begun, 2);
         if !first {
@@ -142,7 +142,7 @@ impl Hands {
     }
 }
 
-/// Until so much is counted, or for so many turns.
+/// Waits until the counter reaches this count, or for `TURNS` rounds.
 fn wait_for(counter: &AtomicU64, count: u64) {
     for _turn in 0..TURNS {
         if counter.load(Ordering::SeqCst) >= count {
@@ -152,7 +152,7 @@ fn wait_for(counter: &AtomicU64, count: u64) {
     }
 }
 
-/// The worker that begins replies to one ticket. It serves on, where it is alone once the step is over.
+/// The worker that starts replies to one ticket, and then serves on. If it is the only one, it waits before that until the step has ended.
 fn first_hand<'f, H: Threads + Wait + Processes<Started = SystemProcess> + Sync>(
     rt: &H,
     alloc: Global,
@@ -181,7 +181,7 @@ fn second_hand<'f, H: Threads + Wait + Processes<Started = SystemProcess> + Sync
     }
 }
 
-/// A step on a board that lives as long as the pool.
+/// Runs a step on a board that lives as long as the pool.
 fn step_alone<'f, L: Ledger, H: Wait>(
     rt: &H,
     alloc: Global,
@@ -194,7 +194,7 @@ fn step_alone<'f, L: Ledger, H: Wait>(
     front.step(rt, alloc, board)
 }
 
-/// The step of a board whose workers go by the plan.
+/// Runs the step of a board whose workers follow the plan.
 fn with_hands<'f, L: Ledger, H: Threads + Wait + Processes<Started = SystemProcess> + Sync>(
     rt: &H,
     alloc: Global,
@@ -231,7 +231,7 @@ fn with_hands<'f, L: Ledger, H: Threads + Wait + Processes<Started = SystemProce
     )
 }
 
-/// Want of memory is told of this place, so many claims are out, and so many hosts have reported.
+/// Checks that the step reports a lack of memory of this worker, with this many claims out and this many hosts that have reported.
 fn is_told<L: Ledger>(
     answer: Result<Board<'_, Hands, L, NoObserver>, (StepFault, Board<'_, Hands, L, NoObserver>)>,
     place: usize,
@@ -250,7 +250,7 @@ fn is_told<L: Ledger>(
     }
 }
 
-/// The step of a batch, whose workers have the last two places. The board is made here alone, so that the setting is held without it.
+/// Runs the step of a batch, with the last two workers. Makes the board in this function, so that the caller holds the setting without it.
 fn step_by_plan<'s, L: Ledger, H: Threads + Wait + Processes<Started = SystemProcess> + Sync>(
     rt: &H,
     alloc: Global,
@@ -279,7 +279,7 @@ fn step_by_plan<'s, L: Ledger, H: Threads + Wait + Processes<Started = SystemPro
     Ok(with_hands(rt, alloc, front, first, second, board, hands))
 }
 
-/// So many hosts, of which as many are worked on at once as there are forks.
+/// Runs the step of this many hosts with this many forks, and checks how it stops.
 fn stopped<L: Ledger, H: Threads + Wait + Processes<Started = SystemProcess> + Sync>(
     rt: &H,
     alloc: Global,
@@ -320,13 +320,13 @@ fn stopped<L: Ledger, H: Threads + Wait + Processes<Started = SystemProcess> + S
 #[test]
 fn want_of_memory_stops_a_step(rt: HostRuntime) -> Result<(), Fail> {
     for (hosts, forks, plan, told) in [
-        // the second worker alone finds none
+        // only the second worker runs out of memory
         (2, 2, SECOND, (1, 1, 1)),
-        // neither does, and the second one says so first
+        // both do, and the second one reports it first
         (2, 2, BOTH, (0, 2, 0)),
-        // the other reply is entered, and no third ticket is put
+        // the other reply is recorded, and no third ticket is put
         (5, 2, FIRST, (0, 1, 1)),
-        // the tickets that nobody has taken come back, all of them
+        // the tickets that no worker has taken come back, all of them
         (5, 2, ALONE, (0, 2, 0)),
         (5, 5, ALONE, (3, 5, 0)),
     ] {

@@ -1,4 +1,4 @@
-//! What a step says where it does not come to its end, and that the board comes back; and a step that needs no worker.
+//! What a step reports if it does not complete, and that the board comes back; also a step that needs no worker.
 ghost use Rattle.std.specs.Prelude.{◌≡◌, ◌<◌, ◌≤◌, IfOk};
 
 use crate::rows::{BATCHES, SIX, THREE_STEPS, one_more_row, script_again, six_hosts};
@@ -16,7 +16,7 @@ use test_fleets::{Setting, board_of, limited_again, set_up};
 
 const SKIPPED: &str = r#"[{"hosts":"all","tasks":[{"command":"x","when":false}]}]"#;
 
-/// The batch is open on the board.
+/// Returns a board with the batch open.
 pub fn opened<'s, R: Runner, L: Ledger>(
     alloc: Global,
     setting: &'s Setting,
@@ -44,7 +44,7 @@ pub fn opened<'s, R: Runner, L: Ledger>(
     }
 }
 
-/// The board came back with this fault and so many claims out, or without a fault and with so many reports.
+/// Checks that the board came back with this error and this many claims out, or without an error and with this many reports.
 fn came_back<L: Ledger>(
     answer: Result<Board<'_, Script, L, NoObserver>, (StepFault, Board<'_, Script, L, NoObserver>)>,
     fault: Option<StepFault>,
@@ -63,7 +63,7 @@ fn came_back<L: Ledger>(
     }
 }
 
-/// The step of a board of one script, whose workers have another.
+/// Runs the step of a board with one script, whose workers have another.
 fn step_of_both<'s, L: Ledger, H: Threads + Wait + Processes<Started = SystemProcess> + Sync>(
     rt: &H,
     alloc: Global,
@@ -101,7 +101,7 @@ fn of_another_script<L: Ledger, H: Threads + Wait + Processes<Started = SystemPr
     came_back(answer, Some(StepFault::Mixed), 2)
 }
 
-/// The step of a board whose pool has no worker left.
+/// Runs the step of a board whose pool has no worker left.
 fn step_of_none<'s, L: Ledger, H: Wait>(
     rt: &H,
     alloc: Global,
@@ -123,7 +123,7 @@ fn step_of_none<'s, L: Ledger, H: Wait>(
     Ok(front.step(rt, alloc, board))
 }
 
-/// What was put comes back; what is settled on every host the coordinator reports by itself.
+/// Checks that what was put comes back, or, if the step is settled on every host, that the coordinator reports it itself.
 fn without_workers<L: Ledger, H: Wait>(
     rt: &H,
     alloc: Global,

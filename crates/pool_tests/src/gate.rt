@@ -1,4 +1,4 @@
-//! The programs of a step on a pool of its own run at once: a call waits for another that has to be at work beside it.
+//! The programs of a step on its own pool run at once: a call waits for another that has to run concurrently.
 ghost use Rattle.std.specs.Prelude.{◌≡◌};
 
 use crate::rolling::{Rolled, roll_apart};
@@ -31,13 +31,13 @@ const HOSTS: [HostId; 5] = [
 /// What calls wait for.
 #[derive(Clone, Copy)]
 enum Until {
-    /// The first, until so many others have answered.
+    /// The first call waits until this many others have returned.
     Answered(u64),
-    /// Each, until so many have begun.
+    /// Each call waits until this many have started.
     Begun(u64),
 }
 
-/// A step of so many hosts, of which as many are worked on at once as there are forks.
+/// A step of this many hosts with this many forks.
 #[derive(Clone, Copy)]
 struct Case {
     hosts: usize,
@@ -64,7 +64,7 @@ const ONE_GOES_ON: Case = Case {
     until: Until::Answered(4),
 };
 
-/// A runner whose calls wait for one another. A call that has waited too long answers 1.
+/// A runner whose calls wait for one another. A call that has waited too long returns 1.
 #[derive(Drop)]
 struct Gate {
     begun: AtomicU64,
@@ -132,7 +132,7 @@ impl Gate {
     }
 }
 
-/// A worker could not be started: the others have finished the step.
+/// Reports whether a worker could not be started, while the others have finished the step.
 fn is_want_of_a_worker<L: Ledger>(rolled: &Rolled<'_, Gate, L>) -> bool {
     match rolled {
         Rolled::ToItsEnd(_board) => false,
@@ -143,7 +143,7 @@ fn is_want_of_a_worker<L: Ledger>(rolled: &Rolled<'_, Gate, L>) -> bool {
     }
 }
 
-/// No call has waited too long.
+/// Checks that no call has waited too long.
 fn all_are_updated<L: Ledger>(rolled: Rolled<'_, Gate, L>, hosts: &[HostId]) -> Result<(), Fail> {
     let Rolled::ToItsEnd(board) = rolled else {
         return Err(Fail::new("the roll did not come to its end"));
@@ -157,7 +157,7 @@ fn all_are_updated<L: Ledger>(rolled: Rolled<'_, Gate, L>, hosts: &[HostId]) -> 
     Ok(())
 }
 
-/// The board is made here alone, so that the setting is held without it.
+/// Makes the board in this function, so that the caller holds the setting without it.
 fn rolled<'s, L: Ledger, H: Threads + Wait + Processes<Started = SystemProcess> + Sync>(
     rt: &H,
     alloc: Global,
@@ -177,7 +177,7 @@ fn rolled<'s, L: Ledger, H: Threads + Wait + Processes<Started = SystemProcess> 
     roll_apart(rt, alloc, board, &batches)
 }
 
-/// One step.
+/// Runs one step.
 fn gated<L: Ledger, H: Threads + Wait + Processes<Started = SystemProcess> + Sync>(
     rt: &H,
     alloc: Global,
@@ -220,7 +220,7 @@ fn gate_two_at_once(rt: HostRuntime) -> Result<(), Fail> {
     Ok(())
 }
 
-/// Where a thread is refused, the answer is want of memory: without it both programs have run at once.
+/// If a thread can't be started, the step reports a lack of memory; otherwise both programs have run at once.
 #[test]
 fn a_step_ends_or_a_worker_is_wanting(rt: HostRuntime) -> Result<(), Fail> {
     gated::<Brand, HostRuntime>(

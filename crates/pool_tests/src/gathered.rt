@@ -1,4 +1,4 @@
-//! A line whose takers stop at a ticket that says so. Their ends come back, so that it is known what all took together.
+//! A channel whose receivers stop at a ticket that tells them to. Their ends come back, which shows what they all took together.
 ghost use Rattle.std.specs.Prelude.{◌≡◌, ◌<◌, All, IfOk, vec_len};
 ghost use Rattle.ticket_channel.specs.Hands.{SameTickets};
 
@@ -10,14 +10,14 @@ use std::thread;
 use std::thread::{Promise, PromisedHandle, Threads};
 use ticket_channel::{ChannelReceiver, ChannelSender, line};
 
-/// A number, or the word to stop.
+/// A number, or the request to stop.
 #[derive(Drop)]
 enum Slip {
     Number(usize),
     Stop,
 }
 
-/// The end that a thread gives back is of the line of the end that it was given.
+/// The end that a thread returns belongs to the channel of the end that it was given.
 #[derive(Drop)]
 struct SameLine {
     given: Snapshot<ChannelReceiver<Slip>>,
@@ -29,7 +29,7 @@ impl Promise<ChannelReceiver<Slip>> for SameLine {
 
 type Worker = PromisedHandle<ChannelReceiver<Slip>, SameLine>;
 
-/// Takes until it is told to stop.
+/// Takes slips until one requests to stop.
 fn take_all<H: Wait>(rt: &H, mut end: ChannelReceiver<Slip>) -> ChannelReceiver<Slip>
     ensures { result.line ≡ end.line }
 {
@@ -42,7 +42,7 @@ fn take_all<H: Wait>(rt: &H, mut end: ChannelReceiver<Slip>) -> ChannelReceiver<
     end
 }
 
-/// Puts a slip, as soon as there is room.
+/// Puts a slip as soon as there is room.
 fn put<H: Wait>(rt: &H, front: &mut ChannelSender<Slip>, mut slip: Slip)
     ensures { (front.new.line ≡ front.old.line) × (front.new.takers ≡ front.old.takers) }
 {
@@ -55,7 +55,7 @@ fn put<H: Wait>(rt: &H, front: &mut ChannelSender<Slip>, mut slip: Slip)
     }
 }
 
-/// Puts the numbers, and a word to stop for each worker.
+/// Puts the numbers, and a request to stop for each worker.
 fn put_all<H: Wait>(rt: &H, front: &mut ChannelSender<Slip>, numbers: usize, workers: usize)
     ensures { (front.new.line ≡ front.old.line) × (front.new.takers ≡ front.old.takers) }
 {
@@ -90,7 +90,7 @@ fn settle<H: Wait>(rt: &H, front: &mut ChannelSender<Slip>)
     }
 }
 
-/// A line on which numbers were put, and taken by as many workers as it has ends. Each slip that was put was taken once.
+/// Passes numbers through a channel with one worker per end. Each slip that was put was taken once.
 fn pass_round<H: Threads + Wait + Sync>(
     rt: &H,
     alloc: Global,

@@ -1,5 +1,6 @@
-//! What no clause and no command says of workers: that a step on a pool of its own comes to its end where there is memory, that its programs run at once,
-//! that it is the same at any number of forks, and want of memory; what a step says that does not come to its end; and that the threads of a line end.
+//! What no contract and no command covers about workers. A step on its own pool completes if there is memory. Its programs run at once, and
+//! it is the same with any number of forks. Also covered are failed allocations, what an incomplete step reports, and that the threads of a
+//! channel end.
 #![tactic(auto)]
 
 #[cfg(test)]

@@ -1,4 +1,5 @@
-//! The same rows at any number of forks; whatever one request of memory, or one thread, is refused, a roll comes to its end with them, or says that memory is wanting.
+//! The same rows with any number of forks. Whichever single allocation or thread start fails, a run ends with these rows, or reports a lack
+//! of memory.
 ghost use Rattle.std.specs.Prelude.{◌≡◌};
 
 use crate::rows::{rolled, script_again, six_hosts};

@@ -1,4 +1,4 @@
-//! Rolls in batches that are given, each step on a pool of its own. No command does: its plays share a pool.
+//! Runs in given batches, each step on its own pool. No command does this: its plays share a pool.
 use fork_pool::{StepFault, run_step};
 use group_tree::HostId;
 use roll_core::{Board, NoObserver, OpenFault, Runner, Stage};
@@ -9,17 +9,17 @@ use std::sync::ledger::Ledger;
 use std::test::Fail;
 use std::thread::Threads;
 
-/// How a roll went.
+/// How a run ended.
 #[derive(Drop)]
 pub enum Rolled<'s, R: Runner, L: Ledger> {
     ToItsEnd(Board<'s, R, L, NoObserver>),
-    /// A step did not come to its end.
+    /// A step did not complete.
     Stopped(StepFault, Board<'s, R, L, NoObserver>),
     /// There was no memory for a batch.
     NoMemory,
 }
 
-/// Passes what needs no worker; what comes next.
+/// What comes next, after passing everything that needs no worker.
 enum Turn {
     Work,
     Over,
@@ -61,7 +61,7 @@ fn move_on<'s, R: Runner, L: Ledger>(
     Err(Fail::new("the roll does not end"))
 }
 
-/// Each step on a pool of its own.
+/// Runs each step on its own pool.
 pub fn roll_apart<
     's,
     R: Runner,

@@ -49,7 +49,7 @@ pub fn script_again(alloc: Global) -> Result<Script, AllocError> {
     }
 }
 
-/// Another script, which says the same of a program in a further row.
+/// Returns another script, which defines the same for a program in an additional row.
 pub fn one_more_row(alloc: Global) -> Result<Script, AllocError> {
     let mut script = script(alloc)?;
     let end = Outcome::Ran {
@@ -65,7 +65,7 @@ fn is_row(counts: Counts, rows: (u32, u32, u32)) -> bool {
     (counts.ok, counts.changed, counts.failed) == rows && (counts.skipped, counts.ignored) == (0, 0)
 }
 
-/// Each host has its rows and its status, and each report is counted.
+/// Reports whether each host has its rows and its status, and each report is counted.
 fn is_as_worked<R: Runner, L: Ledger>(board: &Board<'_, R, L, NoObserver>) -> bool {
     for index in 0..SIX.len() {
         let host = HostId { index };
@@ -81,7 +81,7 @@ fn is_as_worked<R: Runner, L: Ledger>(board: &Board<'_, R, L, NoObserver>) -> bo
     board.joined() == 17 && board.tallies() == 0 && board.out() == 0
 }
 
-/// Whether there was memory to roll to the end; the rows are then those that the script gives.
+/// Reports whether there was memory to run to the end; the rows are then those of the script.
 pub fn rolled<R: Runner, L: Ledger, H: Threads + Wait + Processes<Started = SystemProcess> + Sync>(
     rt: &H,
     alloc: Global,

@@ -31,7 +31,7 @@ range-more from (suc count) =
     let rest = range-more (from + 1) count ∙ ap (λ n. range_with_len (from + 1) count ++ n ∷ []) later in
     rw (let e : suc count + 1 ≡ suc (count + 1) = omega arith in e) (ap (λ rest. from ∷ rest) rest)
 
--- a group more adds its line, where it has one
+-- one more group adds its line, if it has one
 module _ (fleet : FleetView) (downs : ℕ → ℕ) where
   abbrev line_at : ℕ → Option LimitLine
   line_at group = line_with fleet (downs group) group
@@ -70,7 +70,7 @@ pub one_line_at_most : (line : Option LimitLine) → cond (is_some line) 1 0 ≤
 one_line_at_most None = omega arith
 one_line_at_most (Some line) = omega arith
 
--- what a list gives by its places and by its items
+-- a list mapped by index and by item gives the same
 filter_map-places : {X Y : Type 0} (by_place : ℕ → Option Y) (by_item : X → Option Y) (items : List X) (from : ℕ) (d : X)
     → ((i : ℕ) → i < length items → by_place (from + i) ≡ by_item (slice_index_or items i d)) → filter_map by_place (range_with_len from (length items)) ≡ filter_map by_item items
 filter_map-places by_place by_item [] from d same = refl

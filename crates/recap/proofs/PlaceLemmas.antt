@@ -1,4 +1,4 @@
--- Texts that are written entry by entry.
+-- Text that is written entry by entry.
 use Rattle.std.proofs.Common.{◌≡◌, ℕ, ◌+◌, ◌<◌, ◌≤◌, ◌++◌, List, [], ◌∷◌, length, take, get_or, sym, ap, ◌∙◌, refl, arith}
 use Rattle.std.proofs.lemmas.List.{append_assoc, append-nil, length-take-le, take_more}
 use Rattle.recap.specs.RecapText.{text_by_place}
@@ -11,7 +11,7 @@ module _ {X : Type 0} (piece : ℕ → X → List ℕ) where
       ∙ ap (λ n. piece place x ++ (text_by_place piece (place + 1) xs ++ piece n entry)) (omega arith)
       ∙ sym (append_assoc (piece place x) (text_by_place piece (place + 1) xs) (piece (place + length (x ∷ xs)) entry))
 
-  -- one entry more of a list, the first of which stands at this place
+  -- one more entry of a list, the first of which has this index
   pub text_more_from : (before : ℕ) (entries : List X) (i : ℕ) (entry : X) → i < length entries → entry ≡ get_or entries i entry
       → text_by_place piece before (take i entries) ++ piece (before + i) entry ≡ text_by_place piece before (take (i + 1) entries)
   text_more_from before entries i entry within is =

@@ -1,4 +1,4 @@
--- Lines that are written one after the other.
+-- Lines that are written in sequence.
 use Rattle.std.proofs.Common.{◌≡◌, ℕ, ◌+◌, ◌++◌, List, flat_map, sym, ap, ◌∙◌}
 use Rattle.std.specs.List.{range_with_len}
 use Rattle.group_tree.proofs.WellFormed.{flat_map-push}

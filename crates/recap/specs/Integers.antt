@@ -1,4 +1,4 @@
--- Whole numbers in a text.
+-- Integers in text.
 use Rattle.std.specs.Prelude.{ℤ, pos, if◌then◌else◌, List, ℕ, [], ◌++◌, codes, decimal, int_lt, unsigned_abs}
 
 abbrev pub sign_text : ℤ → List ℕ

@@ -2,7 +2,7 @@
 use Rattle.std.specs.Prelude.{ℕ, List, ◌++◌, length, codes, decimal, flat_map}
 use Rattle.group_tree.specs.Names.{Name}
 
--- what is said of a group that limits how many of its hosts may be down
+-- what is shown of a group that limits how many of its hosts may be down
 pub record LimitLine : Type 0 where
   pub group : Name
   pub members : ℕ
@@ -10,7 +10,7 @@ pub record LimitLine : Type 0 where
   pub limit : ℕ
   pub room : ℕ
 
--- a word that ends in `=`, and its number
+-- a word that ends in `=`, followed by its number
 abbrev pub field_text : List ℕ → ℕ → List ℕ
 field_text word number = word ++ decimal number
 

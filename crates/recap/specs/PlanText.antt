@@ -10,7 +10,7 @@ use Rattle.batch_plan.specs.declared.answers.Answer.{Answer}
 use Rattle.batch_plan.specs.declared.answers.Answer.TheVariants.{Planned, Blocked}
 use Rattle.recap.specs.LimitsText.{field_text}
 
--- the name of a host after a space; a number that no host has is given an empty name
+-- the name of a host after a space; a number that no host has gives an empty name
 abbrev pub spaced_name : FleetView → ℕ → List ℕ
 spaced_name fleet host = codes " " ++ host_at fleet.hosts host
 
@@ -57,12 +57,12 @@ abbrev pub batch_lines : FleetView → List (List ℕ) → List ℕ
 batch_lines fleet batches =
     flat_map (λ place. batch_line fleet (place + 1) (list_at batches place)) (range_with_len 0 (length batches))
 
--- `held: NAME ..`, where hosts were set aside
+-- `held: NAME ..`, if hosts were held
 abbrev pub held_line : FleetView → List ℕ → List ℕ
 held_line fleet [] = []
 held_line fleet (host ∷ hosts) = names_line (codes "held:") fleet (host ∷ hosts)
 
--- the first line of a plan's text
+-- the first line of a plan
 abbrev pub answer_line : FleetView → Answer → List ℕ
 answer_line fleet (Planned plan) = planned_line fleet (length plan.batches) plan.bound
 answer_line fleet (Blocked group waiting) = blocked_line fleet group.index waiting
@@ -72,6 +72,6 @@ abbrev pub answer_lines : FleetView → Answer → List ℕ
 answer_lines fleet (Planned plan) = batch_lines fleet plan.batches
 answer_lines fleet (Blocked group waiting) = []
 
--- the plan or the group that blocks it, then the hosts set aside
+-- the plan or the group that blocks it, then the held hosts
 abbrev pub plan_text : FleetView → Answer → List ℕ → List ℕ
 plan_text fleet answer held = answer_line fleet answer ++ (answer_lines fleet answer ++ held_line fleet held)

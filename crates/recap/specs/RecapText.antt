@@ -18,28 +18,28 @@ use Rattle.recap.specs.LimitsText.{field_text}
 use Rattle.recap.specs.PlanText.{answer_line, held_line, names_line}
 use Rattle.recap.specs.declared.parts.Recap.{Recap}
 
--- `open: NAME ..`, where a batch was opened
+-- `open: NAME ..`, if a batch was opened
 abbrev pub open_line : FleetView → Answer → Bool → List ℕ
 open_line fleet answer true = names_line (codes "open:") fleet (next_batch answer)
 open_line fleet answer false = []
 
--- the lines of the boundary with this number: the first line of its plan, the hosts that were set aside, the batch that was opened
+-- the lines of the boundary with this number: the first line of its plan, the hosts that were held, the batch that was opened
 abbrev pub boundary_text : FleetView → ℕ → Boundary → Bool → List ℕ
 boundary_text fleet number boundary opened =
     field_text (codes "boundary ") number
     ++ (codes ": " ++ (answer_line fleet boundary.answer ++ (held_line fleet (host_numbers boundary.held.items) ++ open_line fleet boundary.answer opened)))
 
--- what is written of each entry of a list and its place, one behind the other
+-- the text of each entry of a list and its index, in sequence
 abbrev pub text_by_place : {X : Type 0} → (ℕ → X → List ℕ) → ℕ → List X → List ℕ
 text_by_place piece place [] = []
 text_by_place piece place (entry ∷ rest) = piece place entry ++ text_by_place piece (place + 1) rest
 
--- the lines of the boundaries, numbered from 1, of which so many opened a batch
+-- the lines of the boundaries, numbered from 1, the first `opened` of which opened a batch
 abbrev pub boundary_lines : FleetView → ℕ → List Boundary → List ℕ
 boundary_lines fleet opened boundaries =
     text_by_place (λ place boundary. boundary_text fleet (place + 1) boundary (nat_lt place opened)) 0 boundaries
 
--- the word of a status
+-- the word for a status
 abbrev pub state_word : Status → List ℕ
 state_word status.Idle = codes "idle"
 state_word status.Waiting = codes "waiting"
@@ -98,7 +98,7 @@ ended_line fleet (ending.Blocked group) = blocked_end fleet group.index
 ended_line fleet (ending.TooManyFailed step failed size) = too_many_end step failed size
 ended_line fleet ending.AllFailed = codes "end all-failed\n"
 
--- the last line; a run without an end was broken off by a fault
+-- the last line; a run without an end was interrupted
 abbrev pub end_line : FleetView → Option End → List ℕ
 end_line fleet (Some end) = ended_line fleet end
 end_line fleet None = codes "end fault\n"
@@ -108,7 +108,7 @@ abbrev pub recap_text : FleetView → Recap → List ℕ
 recap_text fleet recap =
     boundary_lines fleet recap.opened recap.boundaries.now ++ (host_lines fleet recap.statuses.now recap.counts.now ++ end_line fleet recap.end)
 
--- the same under the number of the play
+-- likewise under the number of the play
 abbrev pub numbered_text : FleetView → ℕ → Recap → List ℕ
 numbered_text fleet number recap = field_text (codes "play ") number ++ (codes "\n" ++ recap_text fleet recap)
 

@@ -12,7 +12,7 @@ use domains::Fleet;
 use play_forecast::Boundary;
 use std::io::Write;
 
-/// Writes the line of the batch that was opened, where one was.
+/// Writes the line of the batch that was opened, if one was.
 fn write_open<W: Write>(
     text: &mut TextWriter<'_, W>,
     fleet: &Fleet,
@@ -44,7 +44,7 @@ fn write_boundary<W: Write>(
     write_open(text, fleet, boundary, opened);
 }
 
-/// Writes the lines of all boundaries, of which the first ones opened a batch.
+/// Writes the lines of all boundaries, the first `opened` of which opened a batch.
 pub(crate) fn write_boundaries<W: Write>(
     text: &mut TextWriter<'_, W>,
     fleet: &Fleet,

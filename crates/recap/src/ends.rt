@@ -30,7 +30,7 @@ fn write_too_many<W: Write>(text: &mut TextWriter<'_, W>, step: u64, failed: u64
     text.write_str("\n");
 }
 
-/// Goes on with how a play ended.
+/// Appends how a play ended.
 pub fn write_end<W: Write>(text: &mut TextWriter<'_, W>, fleet: &Fleet, end: End)
     ensures { Writes W.contents text.old text.new (ended_line fleet.now end) }
 {
@@ -45,7 +45,7 @@ pub fn write_end<W: Write>(text: &mut TextWriter<'_, W>, fleet: &Fleet, end: End
     }
 }
 
-/// Writes how a run ended; one without an end was broken off by a fault.
+/// Writes how a run ended; one without an end was interrupted.
 pub(crate) fn write_run_end<W: Write>(text: &mut TextWriter<'_, W>, fleet: &Fleet, end: Option<End>)
     ensures { Writes W.contents text.old text.new (end_line fleet.now end) }
 {

@@ -13,7 +13,7 @@ use group_tree::HostId;
 use host_track::Counts;
 use std::io::Write;
 
-/// The word of a status.
+/// Returns the word for a status.
 pub fn word_of(status: Status) -> &'static str
     ensures { result.now ≡ state_word status }
 {
@@ -51,7 +51,7 @@ fn write_line<W: Write>(text: &mut TextWriter<'_, W>, name: &str, counts: Counts
     text.write_str("\n");
 }
 
-/// The status of a host; idle past the end of the list.
+/// Returns the status of a host; idle past the end of the list.
 fn status_of(statuses: &[Status], host: usize) -> Status
     ensures { result ≡ status_at statuses.now host }
 {
@@ -61,7 +61,7 @@ fn status_of(statuses: &[Status], host: usize) -> Status
     }
 }
 
-/// How the rows of a host are judged; it has none past the end of the list.
+/// Returns how the rows of a host are judged; it has none past the end of the list.
 fn counts_of(counts: &[Counts], host: usize) -> Counts
     ensures { result ≡ counts_at counts.now host }
 {

@@ -1,4 +1,4 @@
-//! Whole numbers in a text.
+//! Integers in text.
 ghost use Rattle.std.specs.Prelude.{◌≡◌, decimal, int_lt, pos, unsigned_abs};
 ghost use Rattle.bounded_io.specs.Writing.{Writes};
 ghost use Rattle.recap.specs.Integers as spec;
@@ -6,7 +6,7 @@ ghost use Rattle.recap.specs.Integers as spec;
 use bounded_io::TextWriter;
 use std::io::Write;
 
-/// Goes on with a whole number in decimal digits.
+/// Appends an integer in decimal digits.
 #[tactic(auto, using(bounded_io::proofs::Pieces::pieces_of_text))]
 pub fn write_integer<W: Write>(text: &mut TextWriter<'_, W>, number: i32)
     ensures { Writes W.contents text.old text.new (spec.integer_text number) }

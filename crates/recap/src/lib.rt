@@ -1,4 +1,4 @@
-//! The texts that commands print: the table of limits, a plan, and the recap of a run.
+//! The text that commands print: the table of limits, a plan, and the recap of a run.
 #![tactic(auto)]
 
 mod boundaries;

@@ -13,14 +13,14 @@ use fleet_states::{Status, count_down};
 use group_tree::GroupId;
 use std::io::Write;
 
-/// When hosts are counted: as a run begins, or as they stand by these statuses.
+/// When hosts are counted: at the start of a run, or with these statuses.
 #[derive(Clone, Copy)]
 enum Moment<'m> {
     Start,
     By(&'m [Status]),
 }
 
-/// How many hosts of the group are down then.
+/// Returns how many hosts of the group are down then.
 fn count_then(fleet: &Fleet, moment: &Moment<'_>, group: GroupId) -> usize
     requires { group.index < length fleet.now.groups }
     ensures { result ≡ down_then fleet.now moment.now group.index }
@@ -59,7 +59,7 @@ fn write_totals<W: Write>(text: &mut TextWriter<'_, W>, hosts: u64, limited: u64
     text.write_str("\n");
 }
 
-/// Writes the line of a group, where it has a limit, and says how many lines that were.
+/// Writes the line of a group if it has a limit, and returns how many lines it wrote.
 fn write_group<W: Write>(
     text: &mut TextWriter<'_, W>,
     fleet: &Fleet,
@@ -95,8 +95,8 @@ fn write_table<W: Write>(text: &mut TextWriter<'_, W>, fleet: &Fleet, moment: &M
     write_totals(text, fleet.hosts() as u64, limited);
 }
 
-/// Writes the table of the fleet's limits as a run begins. It takes no memory; where a write fails, exactly the first bytes of the table
-/// went out, as many as the fault says.
+/// Writes the table of the fleet's limits at the start of a run. Does not allocate. If a write fails, exactly the first bytes of the table
+/// were written; the error states how many.
 pub fn write_limits<W: Write>(fleet: &Fleet, out: &mut W) -> Result<(), WriteFault>
     ensures { SendsText (W.contents out.old) (W.contents out.new) (fleet_table fleet.now) result }
 {
@@ -105,7 +105,7 @@ pub fn write_limits<W: Write>(fleet: &Fleet, out: &mut W) -> Result<(), WriteFau
     text.finish()
 }
 
-/// The same as hosts stand by these statuses.
+/// Likewise for hosts with these statuses.
 pub fn write_limits_by<W: Write>(
     fleet: &Fleet,
     statuses: &[Status],

@@ -10,7 +10,7 @@ use domains::Fleet;
 use group_tree::{GroupId, HostId};
 use std::io::Write;
 
-/// The host's name; a number that no host has is given an empty one.
+/// Returns the host's name; a number that no host has gives an empty one.
 pub fn host_name(fleet: &Fleet, host: HostId) -> &str
     ensures { result.now ≡ host_at fleet.now.hosts host.index }
 {
@@ -21,7 +21,7 @@ pub fn host_name(fleet: &Fleet, host: HostId) -> &str
     }
 }
 
-/// The group's name; a number that no group has is given an empty one.
+/// Returns the group's name; a number that no group has gives an empty one.
 pub fn group_name(fleet: &Fleet, group: GroupId) -> &str
     ensures { result.now ≡ host_at fleet.now.groups group.index }
 {

@@ -3,8 +3,8 @@ use fleet_states::Status;
 use host_track::Counts;
 use play_forecast::{Boundary, End};
 
-/// What a recap shows of a play's run: its boundaries, of which so many opened a batch; each host's status at the end, and how its rows
-/// are judged; and the end, which a run that a fault broke off has not.
+/// What a recap shows of a play's run. The first `opened` of its boundaries opened a batch. Each host has its status at the end, and how
+/// its rows are judged. An interrupted run has no end.
 #[derive(Clone, Copy, Debug)]
 pub struct Recap<'r> {
     pub boundaries: &'r [Boundary],

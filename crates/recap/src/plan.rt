@@ -90,7 +90,7 @@ fn write_batches<W: Write>(text: &mut TextWriter<'_, W>, fleet: &Fleet, batches:
     }
 }
 
-/// Writes the first line of a plan's text: how many batches it has and why no fewer, or the group that blocks it.
+/// Writes the first line of a plan: how many batches it has and why no fewer, or the group that blocks it.
 pub fn write_answer_line<W: Write>(text: &mut TextWriter<'_, W>, fleet: &Fleet, answer: &Answer)
     ensures { Writes W.contents text.old text.new (answer_line fleet.now answer.now) }
 {
@@ -105,7 +105,7 @@ pub fn write_answer_line<W: Write>(text: &mut TextWriter<'_, W>, fleet: &Fleet, 
     }
 }
 
-/// Writes the lines of the batches, where there is a plan.
+/// Writes the lines of the batches, if there is a plan.
 #[tactic(auto, using(bounded_io::proofs::Pieces::pieces_of_text))]
 fn write_answer_lines<W: Write>(text: &mut TextWriter<'_, W>, fleet: &Fleet, answer: &Answer)
     ensures { Writes W.contents text.old text.new (answer_lines fleet.now answer.now) }
@@ -115,7 +115,7 @@ fn write_answer_lines<W: Write>(text: &mut TextWriter<'_, W>, fleet: &Fleet, ans
     }
 }
 
-/// Writes the line of the hosts that were set aside, where there are any.
+/// Writes the line of the held hosts, if there are any.
 #[tactic(auto, using(bounded_io::proofs::Pieces::pieces_of_text))]
 pub fn write_held<W: Write>(text: &mut TextWriter<'_, W>, fleet: &Fleet, held: &[HostId])
     ensures { Writes W.contents text.old text.new (held_line fleet.now (host_numbers held.now)) }
@@ -125,8 +125,8 @@ pub fn write_held<W: Write>(text: &mut TextWriter<'_, W>, fleet: &Fleet, held: &
     }
 }
 
-/// Goes on with the plan, or the group that blocks it, and then the hosts that were set aside before it was made, where there
-/// are any. A number that no host or group of the fleet has is given an empty name. It takes no memory.
+/// Appends the plan, or the group that blocks it, followed by the hosts that were held before it was made, if any. A number that no host or
+/// group of the fleet has gives an empty name. Does not allocate.
 #[tactic(auto, using(bounded_io::proofs::Pieces::pieces_of_text))]
 pub fn write_plan_lines<W: Write>(
     text: &mut TextWriter<'_, W>,
@@ -141,8 +141,8 @@ pub fn write_plan_lines<W: Write>(
     write_held(text, fleet, held);
 }
 
-/// Writes the lines of a plan as a text of their own. It takes no memory; where a write fails, exactly the first bytes of the text
-/// went out, as many as the fault says.
+/// Writes the lines of a plan. Does not allocate. If a write fails, exactly the first bytes of the text were written; the error states how
+/// many.
 pub fn write_plan<W: Write>(
     fleet: &Fleet,
     answer: &Answer,

@@ -7,7 +7,7 @@ ghost use Rattle.recap.specs.Printable as spec;
 use bounded_io::TextWriter;
 use std::io::Write;
 
-/// Goes on with the bytes as one line shows them.
+/// Appends the bytes as one line shows them.
 pub fn write_printable<W: Write>(text: &mut TextWriter<'_, W>, bytes: &[u8])
     ensures { Writes W.contents text.old text.new (printed bytes.now) }
 {
@@ -16,7 +16,7 @@ pub fn write_printable<W: Write>(text: &mut TextWriter<'_, W>, bytes: &[u8])
     }
 }
 
-/// A byte that is no printable ASCII is a question mark, so that a line stays one line.
+/// Returns a question mark for a byte that is not printable ASCII, so that a line stays one line.
 fn printable(byte: u8) -> u8
     ensures { result ≡ spec.printable byte }
 {

@@ -13,7 +13,7 @@ use bounded_io::{TextWriter, WriteFault};
 use domains::Fleet;
 use std::io::Write;
 
-/// Goes on with the recap of the one play of a file. It takes no memory.
+/// Appends the recap of the one play of a file. Does not allocate.
 #[tactic(auto, using(bounded_io::proofs::Pieces::pieces_of_text))]
 pub fn write_play<W: Write>(text: &mut TextWriter<'_, W>, fleet: &Fleet, recap: &Recap<'_>)
     ensures { Writes W.contents text.old text.new (recap_text fleet.now recap.now) }
@@ -23,7 +23,7 @@ pub fn write_play<W: Write>(text: &mut TextWriter<'_, W>, fleet: &Fleet, recap: 
     write_run_end(text, fleet, recap.end);
 }
 
-/// Goes on with the recap of one of several plays, under its number, which counts from 1. It takes no memory.
+/// Appends the recap of one of several plays under its number, counted from 1. Does not allocate.
 #[tactic(auto, using(bounded_io::proofs::Pieces::pieces_of_text))]
 pub fn write_numbered<W: Write>(
     text: &mut TextWriter<'_, W>,
@@ -46,8 +46,8 @@ fn write_each_play<W: Write>(text: &mut TextWriter<'_, W>, fleet: &Fleet, recaps
     }
 }
 
-/// Writes the recap of the one play of a file. It takes no memory; where a write fails, exactly the first bytes of the recap went
-/// out, as many as the fault says.
+/// Writes the recap of the one play of a file. Does not allocate. If a write fails, exactly the first bytes of the recap were written; the
+/// error states how many.
 pub fn write_recap<W: Write>(
     fleet: &Fleet,
     recap: &Recap<'_>,
@@ -60,8 +60,8 @@ pub fn write_recap<W: Write>(
     text.finish()
 }
 
-/// Writes the recaps of the plays that were begun in a file of several, each under the number of its play. It takes no memory; where a
-/// write fails, exactly the first bytes of the recaps went out, as many as the fault says.
+/// Writes the recaps of the plays that were started in a file of several, each under the number of its play. Does not allocate. If a write
+/// fails, exactly the first bytes of the recaps were written; the error states how many.
 pub fn write_recaps<W: Write>(
     fleet: &Fleet,
     recaps: &[Recap<'_>],

@@ -15,7 +15,7 @@ use Rattle.cond.proofs.Mentioned.{first_in, first_joined}
 use Rattle.result_dependencies.specs.Reads.{names_in_part, names_in_word, names_in_words}
 use Rattle.result_dependencies.specs.Lookups.{blanks, told_in}
 
--- in the words one after the other
+-- in the arguments in sequence
 pub first_in_all : (wanted : Name → Bool) (words : List (List ℕ)) → first_in wanted (map names_in_word words) ≡ find wanted (names_in_words words)
 first_in_all wanted words =
     first_joined wanted (map names_in_word words) ∙ ap (find wanted) (flat_map-map (λ (names : List Name). names) names_in_word words)
@@ -25,7 +25,7 @@ is_told : (b : Bool) (name : Name) (later other : Option Name) → later ≡ oth
 is_told true name later other same = refl
 is_told false name later other same = same
 
--- the name that is told as undefined is the first that is wanted
+-- the name that is reported as undefined is the first one searched for
 pub first_told : (wanted : Name → Bool) (parts : List Part) → first_undefined (blanks wanted) parts ≡ find wanted (flat_map names_in_part parts)
 first_told wanted [] = refl
 first_told wanted (plain text ∷ parts) = first_told wanted parts
@@ -34,7 +34,7 @@ first_told wanted (hole (part name field) ∷ parts) = is_told (wanted name) nam
 first_told wanted (hole hostname ∷ parts) = first_told wanted parts
 first_told wanted (braces ∷ parts) = first_told wanted parts
 
--- what rendering tells, told where it ends well or not
+-- what rendering reports, whether it succeeds or not
 pub told_is : {A : Type 0} (values : Values) (word : List ℕ) (rendered : Result (String A) RenderFault) → IfOk rendered (λ text. IsRendering values word (string_bytes text))
     → IfErr rendered (IsFaultOf values word) → told_in rendered ≡ first_undefined values (parts_of word)
 told_is values word (Ok text) ok err = sym ok.renderable.defined
@@ -43,7 +43,7 @@ told_is values word (Err BadBraces) ok err = sym err.0
 told_is values word (Err TooLong) ok err = sym err.0.defined
 told_is values word (Err Memory) ok err = sym err.0.defined
 
--- of two lists, one behind the other: none in the first one
+-- in two concatenated lists: none in the first one
 pub goes_on : (wanted : Name → Bool) (names others : List Name) (found next : Option (Bor Name)) → option_map (λ (name : Bor Name). name.now) found ≡ find wanted names → found ≡ None
     → option_map (λ (name : Bor Name). name.now) next ≡ find wanted others → option_map (λ (name : Bor Name). name.now) next ≡ find wanted (names ++ others)
 goes_on wanted names others found next first none later =

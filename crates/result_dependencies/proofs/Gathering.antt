@@ -1,4 +1,4 @@
--- One name more, and what is needed of the names that were gathered.
+-- One more name, and what is needed of the collected names.
 use Rattle.std.proofs.Common.{◌≡◌, ℕ, Bool, true, false, cond, ◌||◌, Bor, List, [], ◌∷◌, ◌++◌, take, drop, refl, sym, ap, ◌∙◌}
 use Rattle.std.specs.List.{list_any}
 use Rattle.std.proofs.lemmas.Slice.Eq.{bytes_eq-Decides}
@@ -19,7 +19,7 @@ or_this : (a b : Bool) → a ≡ true → (a || b) ≡ a
 or_this true b is = refl
 or_this false b is = absurd (cc)
 
--- where the key stands there already, and where it goes behind the others
+-- the key is there already, or comes after the others
 one_more : (keys : List (Bor Name)) (key : Bor Name) (name : Name) (stands same : Bool) → stands_in key.now keys ≡ stands → same_name name key.now ≡ same
     → stands_in name (cond stands keys (keys ++ key ∷ [])) ≡ (stands_in name keys || same_name name key.now)
 one_more keys key name true true stands same =
@@ -34,7 +34,7 @@ pub with_key : (keys : List (Bor Name)) (key : Bor Name) (name : Name)
     → stands_in name (cond (stands_in key.now keys) keys (keys ++ key ∷ [])) ≡ (stands_in name keys || same_name name key.now)
 with_key keys key name = one_more keys key name (stands_in key.now keys) (same_name name key.now) refl refl
 
--- by any test that holds of the names that the plays before register
+-- for any test that holds for the names that the earlier plays register
 pub by_names_before : (plays : List Play) (first : ℕ) (is_earlier : Name → Bool) → ((name : Name) → is_earlier name ≡ is_registered_in (take first plays) name)
     → needed_among is_earlier (drop first plays) ≡ needed_since plays first
 by_names_before plays first is_earlier same = λ i. needed_among (λ name. same name i) (drop first plays)

@@ -1,4 +1,4 @@
--- The name that is told is needed, and no step before needs any.
+-- The reported name is needed, and no earlier step needs any.
 use Rattle.std.proofs.Common.{◌≡◌, ℕ, ◌+◌, ◌<◌, Bool, true, false, cond, ◌&&◌, ◌||◌, Option, Some, None, List, [], ◌∷◌, ◌++◌, length, take, drop, refl, sym, ap, subst, ◌∙◌, arith, ◌⊎◌, inl, inr}
 use Rattle.std.specs.List.{find}
 use Rattle.std.specs.Option.{option_or}
@@ -40,7 +40,7 @@ holds_later true true is_wanted both = both
 holds_later true false is_wanted both = absurd (cc)
 holds_later false later is_wanted both = both
 
--- of some names
+-- for some names
 module _ (wanted : Name → Bool) where
   none_here : (first name : Name) (names : List Name) (is same : Bool) → wanted first ≡ is → same_name name first ≡ same → cond is (Some first) (find wanted names) ≡ None
       → (find wanted names ≡ None → (is_among name names && wanted name) ≡ false) → ((same || is_among name names) && wanted name) ≡ false
@@ -65,7 +65,7 @@ module _ (wanted : Name → Bool) where
   some_wanted [] name some = absurd (cc)
   some_wanted (first ∷ names) name some = some_here first name names (wanted first) refl some (some_wanted names name)
 
--- of one step
+-- for one step
 module _ (is_earlier : Name → Bool) (tasks : List Step) (step : Step) where
   abbrev before_of : Option Name
   before_of = find (is_left is_earlier tasks) (read_before step)
@@ -86,7 +86,7 @@ module _ (is_earlier : Name → Bool) (tasks : List Step) (step : Step) where
       by_case (inl found) = first_holds _ _ (some_wanted (is_left is_earlier tasks) (read_before step) name found)
       by_case (inr found) = second_holds _ _ (some_wanted (is_left_beside is_earlier tasks step) (read_behind step) name found.1)
 
--- of a list
+-- for a list
 module _ {X : Type 0} (gives : ℕ → X → Option Name) where
   none_given : (place : ℕ) (before : List X) (one : X) (behind : List X) → first_given gives place (before ++ one ∷ behind) ≡ None → gives (place + length before) one ≡ None
   none_given place [] one behind none =
@@ -129,7 +129,7 @@ module _ {X : Type 0} (gives : ℕ → X → Option Name) where
   some_given place (first ∷ xs) name some =
       given_by place first xs name (some_given (place + 1) xs name) (or_some (gives place first) (first_given gives (place + 1) xs) name some)
 
--- elements at one place of a list are one element
+-- elements at the same index of a list are equal
 same_one : {X : Type 0} (before other : List X) (one another : X) (behind later : List X) → before ++ one ∷ behind ≡ other ++ another ∷ later → length before ≡ length other → one ≡ another
 same_one [] [] one another behind later same long = cc
 same_one [] (x ∷ other) one another behind later same long = absurd (omega (arith, long))
@@ -139,13 +139,13 @@ same_one (x ∷ before) (y ∷ other) one another behind later same long =
     same_one before other one another behind later rest (omega (arith, long))
 
 module _ (is_earlier : Name → Bool) where
-  -- no step of a play that gives nothing needs any
+  -- if a play needs no name, none of its steps does
   none_in_play : (play : Play) (step : Within play.steps.items) → needed_in is_earlier play ≡ None → needed_at is_earlier play (length step.before) step.one ≡ None
   none_in_play play step none =
       ap (λ (k : ℕ). needed_at is_earlier play k step.one) (omega arith)
       ∙ none_given (needed_at is_earlier play) 0 step.before step.one step.behind (subst (λ (l : List Step). first_given (needed_at is_earlier play) 0 l ≡ None) step.whole none)
 
-  -- no step needs any that gives nothing
+  -- if nothing is found for a step, it needs no name
   not_needed : (play : Play) (place : ℕ) (step : Step) (name : Name) → needed_at is_earlier play place step ≡ None → does_need is_earlier (tasks_before play place) step name ≡ true → ⊥
   not_needed play place step name none needs =
       let not_so = step_needs_none is_earlier (tasks_before play place) step none name in

@@ -1,4 +1,4 @@
--- The names that a step reads, in the order in which it looks them up.
+-- The names that a step reads, in the order in which it reads them.
 use Rattle.std.specs.Prelude.{ℕ, Option, Some, None, List, [], ◌++◌}
 use Rattle.std.specs.List.{flat_map}
 use Rattle.group_tree.specs.Names.{Name}
@@ -12,22 +12,22 @@ names_in_part (plain text) = []
 names_in_part (hole of) = names_in_ref of
 names_in_part braces = []
 
--- the names in the holes of a word
+-- the names in the placeholders of an argument
 abbrev pub names_in_word : List ℕ → List Name
 names_in_word word = flat_map names_in_part (parts_of word)
 
 abbrev pub names_in_words : List (List ℕ) → List Name
 names_in_words words = flat_map names_in_word words
 
--- the names that a condition mentions, where there is one
+-- the names that a condition mentions, if there is one
 abbrev pub names_in_condition : Option Cond → List Name
 names_in_condition None = []
 names_in_condition (Some condition) = names_of condition
 
--- before its program is run, a step reads what `when` and its words mention
+-- before its program runs, a step reads the names in `when` and in its arguments
 abbrev pub read_before : Step → List Name
 read_before step = names_in_condition step.when ++ names_in_words step.words
 
--- by these names its end is judged
+-- the names that decide how its end is judged
 abbrev pub read_behind : Step → List Name
 read_behind step = names_in_condition step.changed_when ++ names_in_condition step.failed_when

@@ -13,10 +13,10 @@ is_called name (Some register) = same_name name (string_bytes register)
 abbrev pub registers : Name → Step → Bool
 registers name step = is_called name step.register
 
--- one of the steps does
+-- one of the steps registers its result under the name
 abbrev pub is_registered_by : List Step → Name → Bool
 is_registered_by steps name = list_any (registers name) steps
 
--- a step of one of the plays does, a task or a handler
+-- a step of one of the plays, a task or a handler, registers its result under the name
 abbrev pub is_registered_in : List Play → Name → Bool
 is_registered_in plays name = list_any (λ (play : Play). is_registered_by play.steps.items name) plays

@@ -8,14 +8,15 @@ use indexmap::IndexSet;
 use play_model::{Play, Step};
 use std::alloc::{AllocError, Global};
 
-/// Names, each once. They are lent by the plays.
+/// Names, each once, borrowed from the plays.
 #[derive(Drop)]
 pub(crate) struct Earlier<'p> {
     names: IndexSet<&'p str>,
 }
 
 impl<'p> Earlier<'p> {
-    /// Those that the steps of these plays register, tasks and handlers. It fails for want of memory alone.
+    /// Returns the names that the steps of these plays register, tasks and handlers. Fails only if an allocation
+    /// fails.
     pub(crate) fn of(alloc: Global, plays: &'p [Play]) -> Result<Earlier<'p>, AllocError>
         ensures { IfOk result (λ earlier. (name : Name) → has_gathered earlier name ≡ is_registered_in plays.now name) }
     {
@@ -28,14 +29,14 @@ impl<'p> Earlier<'p> {
         Ok(earlier)
     }
 
-    /// Whether the name is one of them.
+    /// Returns whether the set contains the name.
     pub(crate) fn has(&self, name: &str) -> bool
         ensures { result ≡ has_gathered self.now name.now }
     {
         self.names.contains(name)
     }
 
-    /// Adds those that the steps register.
+    /// Adds the names that the steps register.
     fn add_all(&mut self, steps: &'p [Step]) -> Result<(), AllocError>
         ensures { OnOk result ((name : Name) → has_gathered self.new name ≡ (has_gathered self.old name || is_registered_by steps.now name)) }
     {
@@ -45,7 +46,7 @@ impl<'p> Earlier<'p> {
         Ok(())
     }
 
-    /// Adds the one that the step registers, if it registers any.
+    /// Adds the name that the step registers, if it registers one.
     fn add(&mut self, step: &'p Step) -> Result<(), AllocError>
         ensures { OnOk result ((name : Name) → has_gathered self.new name ≡ (has_gathered self.old name || registers name step.now)) }
     {

@@ -1,11 +1,11 @@
-//! What the name that is told says.
+//! Laws of the reported name.
 ghost use Rattle.std.specs.Prelude.{◌≡◌, ℕ, Some, None, List, drop};
 ghost use Rattle.group_tree.specs.Names.{Name};
 ghost use Rattle.play_model.specs.declared.play.Play.{Play};
 ghost use Rattle.result_dependencies.specs.Needs.{needed_since};
 ghost use Rattle.result_dependencies.specs.Standing.{Standing, Needs, IsFirstNeed};
 
-/// A name is told where a step needs it, and no step before that one needs any; none is told where no step needs any.
+/// A reported name is needed by a step, and no earlier step needs any. None is reported only if no step needs any.
 #[tactic(auto, using(crate::proofs::Needing::some_told, crate::proofs::Needing::none_told))]
 pub fn the_first_need_is_told()
     ensures some { (plays : List Play) (first : ℕ) (name : Name) → needed_since plays first ≡ Some name → IsFirstNeed plays first name }

@@ -1,4 +1,4 @@
-//! Which results of earlier plays a later play reads.
+//! The results of earlier plays that a later play reads.
 #![tactic(auto)]
 
 mod earlier;

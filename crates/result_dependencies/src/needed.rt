@@ -9,8 +9,9 @@ use crate::visible_results::{Beside, VisibleResults};
 use play_model::{Play, Step};
 use std::alloc::{AllocError, Global};
 
-/// The first name, in the order of plays and steps, that a step of a play from `first` on, counted from 0, reads, that a step of a play
-/// before `first` registers, and that no task of its own play before it registers. It fails for want of memory alone.
+/// Returns the first name, in the order of plays and steps, that a step needs from an earlier play. The step is in a
+/// play from `first` on (counted from 0) and reads the name. A play before `first` registers it, and no task before
+/// the step in its own play does. Fails only if an allocation fails.
 pub fn needed_result<'p>(
     alloc: Global,
     plays: &'p [Play],
@@ -23,7 +24,7 @@ pub fn needed_result<'p>(
     Ok(first_among(alloc, &earlier, from))
 }
 
-// The plays before the one at this place, and the others.
+// Splits the plays before the one at this index.
 fn split(plays: &[Play], place: usize) -> (&[Play], &[Play])
     ensures before { result.0.now ≡ take place plays.now }
     ensures from { result.1.now ≡ drop place plays.now }

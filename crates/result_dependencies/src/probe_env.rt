@@ -1,4 +1,4 @@
-//! A host that has an empty text under every name but those that are looked for.
+//! A host that has an empty string under every name except those searched for.
 ghost use Rattle.std.specs.Prelude.{◌≡◌, option_map};
 ghost use Rattle.group_tree.specs.Scalars.{lent_scalar};
 ghost use Rattle.result_dependencies.specs.Lookups as spec;
@@ -7,7 +7,7 @@ use cond::Names;
 use group_tree::Scalar;
 use text_syntax::{Ref, Values};
 
-/// Rendering tells the first of these names as one without a value.
+/// Rendering reports the first of these names as one without a value.
 #[derive(Drop)]
 pub(crate) struct ProbeEnv<'n, N: Names> {
     pub(crate) names: &'n N,

@@ -11,7 +11,7 @@ use play_model::{Step, Words};
 use std::alloc::Global;
 use text_syntax::{RenderFault, render};
 
-/// The first that it reads before its program is run: of `when`, or else of its words.
+/// Returns the first name that the step reads before its program runs: in `when`, otherwise in its arguments.
 pub(crate) fn read_before<'s, N: Names>(alloc: Global, step: &'s Step, names: &N) -> Option<&'s str>
     ensures { option_map (λ name. name.now) result ≡ find (N.holds names.now) (spec.read_before step.now) }
 {
@@ -21,7 +21,7 @@ pub(crate) fn read_before<'s, N: Names>(alloc: Global, step: &'s Step, names: &N
     }
 }
 
-/// The first that it reads behind that: of `changed_when`, or else of `failed_when`.
+/// Returns the first name that the step reads after that: in `changed_when`, otherwise in `failed_when`.
 pub(crate) fn read_behind<'s, N: Names>(step: &'s Step, names: &N) -> Option<&'s str>
     ensures { option_map (λ name. name.now) result ≡ find (N.holds names.now) (spec.read_behind step.now) }
 {
@@ -59,7 +59,7 @@ fn first_in_word<'s, N: Names>(alloc: Global, word: &'s str, names: &N) -> Optio
     told_name(render(alloc, &ProbeEnv { names }, word))
 }
 
-// The name without a value. Every other fault is told of words in which each name has one.
+// Returns the name without a value. Any other error means that every name has one.
 fn told_name<'w>(rendered: Result<String, RenderFault<'w>>) -> Option<&'w str>
     ensures { option_map (λ name. name.now) result ≡ told_in rendered.entry }
 {

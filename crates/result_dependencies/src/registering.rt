@@ -4,7 +4,7 @@ ghost use Rattle.result_dependencies.specs.Registers as spec;
 
 use play_model::Step;
 
-/// Whether the step registers its result under the name.
+/// Returns whether the step registers its result under the name.
 pub(crate) fn registers(name: &str, step: &Step) -> bool
     ensures { result ≡ spec.registers name.now step.now }
 {
@@ -14,7 +14,7 @@ pub(crate) fn registers(name: &str, step: &Step) -> bool
     }
 }
 
-/// Whether one of the steps does.
+/// Returns whether one of the steps registers its result under the name.
 pub(crate) fn is_registered_by(steps: &[Step], name: &str) -> bool
     ensures { result ≡ spec.is_registered_by steps.now name.now }
 {

@@ -1,4 +1,4 @@
-//! Names of earlier plays' results that a step may read.
+//! The results of earlier plays that a step can read.
 ghost use Rattle.std.specs.Prelude.{◌≡◌};
 ghost use Rattle.result_dependencies.specs.Needs.{is_left, is_left_beside};
 ghost use Rattle.result_dependencies.specs.Lookups.{has_gathered};
@@ -8,7 +8,7 @@ use crate::registering::{is_registered_by, registers};
 use cond::Names;
 use play_model::Step;
 
-/// Those of earlier plays that none of these tasks registers.
+/// The names of earlier plays that none of these tasks registers.
 #[derive(Clone, Copy)]
 pub(crate) struct VisibleResults<'s> {
     pub(crate) earlier: &'s Earlier<'s>,
@@ -23,7 +23,7 @@ impl Names for VisibleResults<'_> {
     }
 }
 
-/// Those that the step doesn't register either.
+/// The names that the step doesn't register either.
 #[derive(Clone, Copy)]
 pub(crate) struct Beside<'s> {
     pub(crate) unhidden: VisibleResults<'s>,

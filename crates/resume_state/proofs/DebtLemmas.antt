@@ -1,4 +1,4 @@
--- What one host more owes.
+-- What one more host owes.
 use Rattle.std.proofs.Common.{◌≡◌, ℕ, ◌+◌, ◌<◌, ◌≤◌, nat_eq, Bool, true, false, ◌||◌, List, [], ◌∷◌, ◌++◌, length, get_or, set, take, refl, sym, ap, ◌∙◌, subst, arith, inl, inr, ◌⊎◌}
 use Rattle.std.proofs.Math.Bool.{or-false}
 use Rattle.std.proofs.lemmas.Bool.{cases_eq, eq-eqb, ne_eqb}
@@ -69,7 +69,7 @@ pub owe_more : (hosts : List ℕ) (i : ℕ) (host : ℕ) (vars mid after : List 
 owe_more hosts i host vars mid after within is one two =
     subst (λ (l : List ℕ). OweAmong l vars after) (ap (λ h. take i hosts ++ h ∷ []) is ∙ sym (take_more hosts i 0 within)) (one_more (take i hosts) host vars mid after one two)
 
--- one of those owes
+-- one of those is in debt
 pub owes_there : (owing : List ℕ) (vars after : List Vars) (host : ℕ) (one : Vars) → OweAmong owing vars after → host < length vars → get_or after host one ≡ one → has_number host owing ≡ true
     → (known_of one).owes ≡ true
 owes_there owing vars after host one owe within is listed =

@@ -1,4 +1,4 @@
--- What is known of the play with which a run goes on, and why none goes on.
+-- What is known of the play with which a run resumes, and why none resumes.
 use Rattle.std.proofs.Common.{◌≡◌, ℕ, Bool, None, Result, Ok, Err, List, ◌∷◌, drop, subst, sym, inl, inr}
 use Rattle.std.specs.Prelude.{IfErr, IfOk}
 use Rattle.std.specs.List.{find}
@@ -18,23 +18,23 @@ use Rattle.resume_state.specs.declared.inputs.Resumption.{Resumption}
 use Rattle.resume_state.specs.declared.fault.ResumeFault.{ResumeFault}
 use Rattle.resume_state.specs.declared.fault.ResumeFault.TheVariants as fault
 
--- where each part of each pattern names something, so does each part of the pattern of the play behind so many
+-- if each part of each pattern matches something, so does each part of the pattern of the play after `before` plays
 pub known_at : (fleet : FleetView) (before : ℕ) (plays : List Play) (first : Play) (later : List Play) → drop before plays ≡ first ∷ later
     → find (names_nothing fleet) (named_parts plays) ≡ None → find (names_nothing fleet) (parts_of_play first) ≡ None
 known_at fleet before plays first later is known =
     known_first fleet first later (subst (λ (l : List Play). find (names_nothing fleet) (named_parts l) ≡ None) is (known_from fleet before plays known))
 
--- what is so of whatever goes on is so of the answer
+-- what holds for every resumption holds for the answer
 pub all_ok : {T : Type 0} {P Q : T → Type 0} (result : Result T ResumeFault) → ((value : T) → P value → Q value) → IfOk result P → IfOk result Q
 all_ok (Ok value) maps is = maps value is
 all_ok (Err why) maps is = is
 
--- what is so of whatever refuses is so of the fault
+-- what holds for every refusal holds for the error
 pub all_err : {T : Type 0} {P Q : ResumeFault → Type 0} (result : Result T ResumeFault) → ((why : ResumeFault) → P why → Q why) → IfErr result P → IfErr result Q
 all_err (Ok value) maps is = is
 all_err (Err why) maps is = maps why is
 
--- both texts are accepted, and these hosts are up by now
+-- both files are accepted, and these hosts are back up
 module _ (inventory playbook journal names : List ℕ) (takes_others : Bool) (fleet : FleetView) (vars : List Vars) (plays : List Play)
     (hosts : AreHostsIn inventory fleet vars) (says : ArePlaysIn fleet playbook plays) (mended : List ℕ) (named : IsMended fleet names mended) where
   behind : (why : ResumeFault) → RefusesNamed fleet inventory playbook journal names takes_others plays why → RefusesBehind inventory playbook journal names takes_others why
@@ -59,7 +59,7 @@ module _ (inventory playbook journal names : List ℕ) (takes_others : Bool) (fl
   on_refused state own (fault.Journal found) is = absurd is
   on_refused state own (fault.Mended found) is = absurd is
 
--- a run that has said which it is, and nothing else, can't go on
+-- a run that has recorded only its head can't continue
 module _ (inventory playbook names : List ℕ) (fleet : FleetView) (vars : List Vars) (plays : List Play) (hosts : AreHostsIn inventory fleet vars)
     (says : ArePlaysIn fleet playbook plays) (mended : List ℕ) (named : IsMended fleet names mended) where
   not_mended : (why : ResumeFault) → RefusesToGoOn fleet plays mended (begun_state fleet inventory playbook plays) why → RefusesToMend inventory playbook names why
@@ -75,7 +75,7 @@ module _ (inventory playbook names : List ℕ) (fleet : FleetView) (vars : List 
   not_begun (fault.Journal found) is = absurd is
   not_begun (fault.Mended found) is = absurd is
 
--- what a run goes on with has the fleet and the plays of the texts
+-- what a run resumes with has the fleet and the plays of the files
 module _ (inventory playbook names : List ℕ) (fleet : FleetView) (vars : List Vars) (plays : List Play) (hosts : AreHostsIn inventory fleet vars) (says : ArePlaysIn fleet playbook plays)
     (mended : List ℕ) (named : IsMended fleet names mended) where
   abbrev BeginsOn : Resumption → FleetView → List Play → Type 0

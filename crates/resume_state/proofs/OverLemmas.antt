@@ -1,4 +1,4 @@
--- Groups of which more hosts are down than their limit.
+-- Groups with more hosts down than their limit.
 use Rattle.std.proofs.Common.{◌≡◌, ℕ, ◌<◌, Option, None, Some, true, false, List, length, slice_index_or, sym, ap, ◌∙◌, refl, arith}
 use Rattle.std.specs.Prelude.{unwrap_or}
 use Rattle.std.proofs.lemmas.List.Elements.{All-from_get_or}
@@ -10,7 +10,7 @@ use Rattle.fleet_states.specs.Statuses.{down_count}
 use Rattle.fleet_states.specs.Groups.{FleetGroup, IsSafe, group_at, groups_of, is_over, no_group}
 use Rattle.fleet_states.proofs.GroupLemmas.{get_or-groups_of, length-groups_of}
 
--- by a group's limit, and how many of its members are down
+-- from a group's limit, and how many of its members are down
 pub over_is : (fleet : FleetView) (statuses : List Status) (group : ℕ) → group < length fleet.groups → (limit : Option ℕ) → limit ≡ slice_index_or fleet.limits group None
     → (down : ℕ) → down ≡ down_count statuses (list_at fleet.members group) → exceeds limit down ≡ is_over statuses (group_at (groups_of fleet) group)
 over_is fleet statuses group within limit limited down counted =
@@ -22,7 +22,7 @@ pub counted_at : (fleet : FleetView) (statuses : List Status) (group : ℕ) → 
     → down_count statuses (list_at fleet.members group) ≡ down_count statuses (group_at (groups_of fleet) group).members
 counted_at fleet statuses group within = sym (ap (λ (g : FleetGroup). down_count statuses g.members) (get_or-groups_of fleet group no_group within))
 
--- where no group of a number is over its limit, none is
+-- if no group with a number exceeds its limit, none does
 pub none_over : (fleet : FleetView) (statuses : List Status) → ((group : ℕ) → group < length fleet.groups → is_over statuses (group_at (groups_of fleet) group) ≡ false) → IsSafe (groups_of fleet) statuses
 none_over fleet statuses none =
     All-from_get_or (λ (group : FleetGroup). is_over statuses group ≡ false) (groups_of fleet) no_group (λ k l. none k (omega (arith, l, length-groups_of fleet)))
@@ -31,7 +31,7 @@ some_limit : (limit : Option ℕ) (down shown : ℕ) → exceeds limit down ≡ 
 some_limit None down shown over is = absurd (cc)
 some_limit (Some limit) down shown over is = ap (λ (n : ℕ). Some n) (sym is)
 
--- a group that is over its limit has one
+-- a group that exceeds its limit has one
 pub limit_over : (fleet : FleetView) (statuses : List Status) (group : ℕ) → group < length fleet.groups → is_over statuses (group_at (groups_of fleet) group) ≡ true
     → (limit : Option ℕ) → limit ≡ slice_index_or fleet.limits group None → (shown : ℕ) → shown ≡ unwrap_or limit 0 → slice_index_or fleet.limits group None ≡ Some shown
 limit_over fleet statuses group within over limit limited shown is =

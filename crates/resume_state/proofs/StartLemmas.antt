@@ -1,4 +1,4 @@
--- The statuses with which a run goes on.
+-- The statuses with which a run resumes.
 use Rattle.std.proofs.Common.{◌≡◌, ℕ, Bool, true, false, cond, None, Some, Option, Result, Ok, Err, List, [], ◌∷◌, drop, length, sym, ap, ◌∙◌, refl, subst, arith}
 use Rattle.std.specs.Prelude.{IfErr}
 use Rattle.std.specs.Result.{IsErrAnd}
@@ -40,7 +40,7 @@ kept_behind fleet (entry ∷ entries) said later kept is =
 pub all_kept : (fleet : FleetView) (entries : List Entry) (later : JournalState) → state_after fleet entries ≡ Some later → length later.statuses ≡ length fleet.hosts
 all_kept fleet entries later is = (kept_behind fleet entries (start fleet) later (kept_at_start fleet) is).all
 
--- and so it has as a run begins
+-- and so it has when a run starts
 pub all_begun : (fleet : FleetView) (head : Head) (state : JournalState) → state ≡ begins (start fleet) head → length state.statuses ≡ length fleet.hosts
 all_begun fleet head state is = ap (λ (s : JournalState). length s.statuses) is ∙ (kept_at_start fleet).all
 
@@ -51,7 +51,7 @@ pub length-start : (going : Bool) (target hosts : List ℕ) (statuses : List Sta
 length-start true target hosts statuses = length-changed awaited target (rested hosts statuses) ∙ length-rested hosts statuses
 length-start false target hosts statuses = length-restart_statuses (rested hosts statuses) target ∙ length-rested hosts statuses
 
--- nobody is at work
+-- no host is running
 goes_quiet : (s : Status) (listed : Bool) → is_running (cond listed (awaited (at_rest s)) (at_rest s)) ≡ false
 goes_quiet Idle true = refl
 goes_quiet Idle false = refl
@@ -97,7 +97,7 @@ nobody_runs false target hosts statuses =
     (omega (arith, l, length-restart_statuses (rested hosts statuses) target)) (omega arith))
     ∙ begins_quiet (status_at (rested hosts statuses) k) (has_number k target))
 
--- what a run goes on with, by where it stands as it is resumed
+-- what a run resumes with, given its state as it is resumed
 pub goes_on_with : (fleet : FleetView) (plays : List Play) (hosts : List ℕ) (state said : JournalState) → said ≡ resumes state hosts → (before : ℕ) → before ≡ plays_before said
     → (first : Play) (later : List Play) → drop before plays ≡ first ∷ later → (statuses : List Status) → statuses ≡ resumed_start (is_under_way said) (targets fleet first) said.statuses
     → GoesOnWith fleet plays hosts state before first later statuses
@@ -108,7 +108,7 @@ goes_on_with fleet plays hosts state said is before stands first later left stat
       begins = begins ∙ ap (λ (s : JournalState). resumed_start (is_under_way s) (targets fleet first) s.statuses) is;
     }
 
--- these statuses are those with which a play may begin, where no group is over its limit by them
+-- a play may start with these statuses if no group exceeds its limit by them
 pub ready : (fleet : FleetView) (plays : List Play) (hosts : List ℕ) (state : JournalState) (before : ℕ) (first : Play) (later : List Play) (statuses : List Status)
     → GoesOnWith fleet plays hosts state before first later statuses → length state.statuses ≡ length fleet.hosts → IsSafe (groups_of fleet) statuses → IsReady fleet statuses
 ready fleet plays hosts state before first later statuses on all safe =
@@ -119,14 +119,14 @@ ready fleet plays hosts state before first later statuses on all safe =
       safe = safe;
     }
 
--- what is read of plays that aren't run again, by where the run stands as it is resumed
+-- which lost results are read, given the run's state as it is resumed
 pub needed_so : (plays shown : List Play) (hosts : List ℕ) (state said : JournalState) → said ≡ resumes state hosts → (before : ℕ) → before ≡ plays_before said → (is_left : Bool)
     → is_left ≡ has_updated said → shown ≡ plays → needed_behind shown is_left before ≡ needed_again plays (resumes state hosts)
 needed_so plays shown hosts state said is before stands is_left left same =
     ap (λ (l : List Play). needed_behind l is_left before) same ∙ ap (λ (b : Bool). needed_behind plays b before) left ∙ ap (needed_behind plays (has_updated said)) stands
     ∙ ap (needed_again plays) is
 
--- a group that is over its limit by these statuses is so by those with which it would go on
+-- a group that exceeds its limit by these statuses does so by those with which it would continue
 pub over_refused : (fleet : FleetView) (plays : List Play) (hosts : List ℕ) (state : JournalState) (before : ℕ) (first : Play) (later : List Play) (statuses : List Status)
     → GoesOnWith fleet plays hosts state before first later statuses → needed_again plays (resumes state hosts) ≡ None → (why : ResumeFault) → TellsOver fleet statuses why
     → RefusesToGoOn fleet plays hosts state why
@@ -139,7 +139,7 @@ over_refused fleet plays hosts state before first later statuses on nothing faul
 over_refused fleet plays hosts state before first later statuses on nothing (fault.Mended names) tells = absurd tells
 over_refused fleet plays hosts state before first later statuses on nothing (fault.NeedsResult name) tells = absurd tells
 
--- a fault that is passed on is what is returned
+-- an error that is passed on is the one returned
 pub passed_on : {T : Type 0} (result : Result T ResumeFault) (found : ResumeFault) (P : ResumeFault → Type 0) → IsErrAnd result (λ why. why ≡ found) → P found → IfErr result P
 passed_on (Ok value) found P same is = absurd same
 passed_on (Err why) found P same is = subst P (sym same) is

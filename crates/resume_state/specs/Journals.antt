@@ -1,4 +1,4 @@
--- The journal of a run that began with two texts.
+-- The journal of a run of two files.
 use Rattle.std.specs.Prelude.{◌≡◌, ◌||◌, ◌&&◌, ℕ, Bool, true, false, List, ◌++◌, bytes_eq}
 use Rattle.std.specs.Option.{option_map_or}
 use Rattle.domains.specs.FleetViews.{FleetView}
@@ -9,19 +9,19 @@ use Rattle.journal.specs.States.{JournalState}
 use Rattle.resume_state.specs.declared.fault.ResumeFault.{ResumeFault}
 use Rattle.resume_state.specs.declared.fault.ResumeFault.TheVariants as fault
 
--- a run that said so of itself began with these texts
+-- a run with this head started with these files
 abbrev pub is_of_head : List ℕ → List ℕ → Head → Bool
 is_of_head inventory playbook head = bytes_eq head.inventory (digest_of inventory) && bytes_eq head.playbook (digest_of playbook)
 
 abbrev pub is_of : List ℕ → List ℕ → JournalState → Bool
 is_of inventory playbook state = option_map_or (is_of_head inventory playbook) state.head false
 
--- the text is the journal of a run that stands there, and began with these texts, unless others are meant
+-- the file is the journal of a run in this state, which started with these files, unless changed inputs are accepted
 pub record IsOwnJournal (fleet : FleetView) (inventory playbook : List ℕ) (takes_others : Bool) (text : List ℕ) (state : JournalState) : Type 0 where
   pub reads : IsJournalOf fleet text state
   pub own : (takes_others || is_of inventory playbook state) ≡ true
 
--- the text begins with a journal of a run that began with others
+-- the file starts with a journal of a run that started with others
 pub record IsOfOther (fleet : FleetView) (inventory playbook text : List ℕ) : Type 0 where
   pub front : List ℕ
   pub behind : List ℕ
@@ -30,7 +30,7 @@ pub record IsOfOther (fleet : FleetView) (inventory playbook text : List ℕ) : 
   pub reads : IsJournalOf fleet front state
   pub other : is_of inventory playbook state ≡ false
 
--- why the journal is refused: it is none of the fleet, or of a run that began with other texts, which are not meant
+-- why the journal is rejected: it is not one of the fleet, or is of a run that started with other files, which are not accepted
 abbrev pub RefusesJournal : FleetView → List ℕ → List ℕ → Bool → List ℕ → ResumeFault → Type 0
 RefusesJournal fleet inventory playbook takes_others text (fault.Journal journal) = IsJournalFault fleet text journal
 RefusesJournal fleet inventory playbook takes_others text fault.OtherInputs = (takes_others ≡ false) × IsOfOther fleet inventory playbook text

@@ -1,4 +1,4 @@
--- Groups of which more hosts are down than their limit.
+-- Groups with more hosts down than their limit.
 use Rattle.std.specs.Prelude.{◌≡◌, ◌<◌, ℕ, true, false, Some, List, length, slice_index_or, None, string_bytes}
 use Rattle.domains.specs.FleetViews.{FleetView}
 use Rattle.domains.specs.Numbered.{host_at}
@@ -10,13 +10,13 @@ use Rattle.fleet_states.specs.Statuses.{down_count}
 use Rattle.resume_state.specs.declared.fault.ResumeFault.{ResumeFault}
 use Rattle.resume_state.specs.declared.fault.ResumeFault.TheVariants as fault
 
--- the group is over its limit, and none before it is
+-- the group exceeds its limit, and none before it does
 pub record IsFirstOver (fleet : FleetView) (statuses : List Status) (group : ℕ) : Type 0 where
   pub within : group < length fleet.groups
   pub over : is_over statuses (group_at (groups_of fleet) group) ≡ true
   pub first : (earlier : ℕ) → earlier < group → is_over statuses (group_at (groups_of fleet) earlier) ≡ false
 
--- the fault names the first group that is over its limit, how many of its hosts are down, and the limit
+-- the error names the first group that exceeds its limit, how many of its hosts are down, and the limit
 pub record NamesOver (fleet : FleetView) (statuses : List Status) (name : List ℕ) (down limit : ℕ) : Type 0 where
   pub group : ℕ
   pub over : IsFirstOver fleet statuses group
@@ -30,7 +30,7 @@ TellsFleetOver fleet statuses (fleet_fault.NotNested host first second) = ⊥
 TellsFleetOver fleet statuses fleet_fault.TooManyHosts = ⊥
 TellsFleetOver fleet statuses fleet_fault.Memory = ⊥
 
--- want of memory tells nothing
+-- a failed allocation reports nothing
 abbrev pub TellsOver : FleetView → List Status → ResumeFault → Type 0
 TellsOver fleet statuses (fault.Over over) = TellsFleetOver fleet statuses over
 TellsOver fleet statuses fault.Memory = Unit {0}

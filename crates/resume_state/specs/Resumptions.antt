@@ -1,4 +1,4 @@
--- What a run goes on with that broke off.
+-- What an interrupted run resumes with.
 use Rattle.std.specs.Prelude.{◌≡◌, ◌≢◌, ◌<◌, ◌≤◌, ◌⊎◌, ℕ, suc, Bool, true, false, ◌&&◌, if◌then◌else◌, Option, None, Some, List, ◌∷◌, drop, length, min, string_bytes}
 use Rattle.std.specs.List.{find, list_any}
 use Rattle.std.specs.Option.{option_or}
@@ -28,7 +28,7 @@ use Rattle.resume_state.specs.declared.inputs.Resumption.{Resumption}
 use Rattle.resume_state.specs.declared.fault.ResumeFault.{ResumeFault}
 use Rattle.resume_state.specs.declared.fault.ResumeFault.TheVariants as fault
 
--- the hosts of these names, each of which names something, are up by now
+-- the hosts of these names, each of which matches something, are back up
 pub record IsMended (fleet : FleetView) (names hosts : List ℕ) : Type 0 where
   pub known : find (names_nothing fleet) (parts_of names) ≡ None
   pub named : hosts ≡ named_hosts fleet (parts_of names)
@@ -52,25 +52,26 @@ is_updated Halted = false
 is_updated Off = false
 is_updated Held = false
 
--- somebody was updated in the play that goes on, and doesn't run it again
+-- a host was updated in the play that continues, and doesn't run it again
 abbrev pub has_updated : JournalState → Bool
 has_updated state = is_under_way state && list_any is_updated state.statuses
 
--- the first result that is read of a play which isn't run again: of one before the play that goes on, or, where somebody was updated in that, of it too
+-- the first lost result that a later step reads: registered by a play before the one that continues, or, if a host was updated in that one,
+-- by it as well
 abbrev pub needed_behind : List Play → Bool → ℕ → Option Name
 needed_behind plays is_left before = option_or (needed_since plays before) (if is_left then needed_since plays (suc before) else None)
 
 abbrev pub needed_again : List Play → JournalState → Option Name
 needed_again plays state = needed_behind plays (has_updated state) (plays_before state)
 
--- a run that stands there goes on behind so many plays with this one, which begins with these statuses
+-- a run in this state continues after `before` plays with this one, which starts with these statuses
 pub record GoesOnWith (fleet : FleetView) (plays : List Play) (mended : List ℕ) (state : JournalState) (before : ℕ) (first : Play) (later : List Play) (statuses : List Status) : Type 0 where
   pub stands : before ≡ plays_before (resumes state mended)
   pub left : drop before plays ≡ first ∷ later
   pub begins : statuses ≡ resumed_start (is_under_way (resumes state mended)) (targets fleet first) (rested mended state.statuses)
 
--- of a run that stands there by its journal, with these hosts up by now: there are as many plays as it began with; the play that goes on, what it begins with, and on whom it has to
--- run its handlers; and no result is read that is gone
+-- for a run that is in this state by its journal, with these hosts back up: there are as many plays as it started with; the play that
+-- continues, what it starts with, and on which hosts it has to run its handlers; and no lost result is read
 pub record IsResumedFrom (fleet : FleetView) (plays : List Play) (vars : List Vars) (mended : List ℕ) (state : JournalState) (resumption : Resumption) : Type 0 where
   pub fleet_is : resumption.fleet ≡ fleet
   pub plays_are : resumption.plays.items ≡ plays
@@ -83,7 +84,7 @@ pub record IsResumedFrom (fleet : FleetView) (plays : List Play) (vars : List Va
   pub many : length plays ≡ plays_of state.head
   pub nothing : needed_again plays (resumes state mended) ≡ None
 
--- no result is read that is gone, and by the statuses with which it would go on a group is over its limit
+-- no lost result is read, and by the statuses with which it would continue a group exceeds its limit
 pub record GoesOver (fleet : FleetView) (plays : List Play) (mended : List ℕ) (state : JournalState) (over : FleetFault) : Type 0 where
   pub before : ℕ
   pub first : Play
@@ -93,11 +94,11 @@ pub record GoesOver (fleet : FleetView) (plays : List Play) (mended : List ℕ) 
   pub nothing : needed_again plays (resumes state mended) ≡ None
   pub tells : TellsFleetOver fleet statuses over
 
--- there are other plays than those with which the run began, or none that goes on
+-- the number of plays differs from that with which the run started, or no play is left to continue
 abbrev pub HasOtherPlays : List Play → List ℕ → JournalState → Type 0
 HasOtherPlays plays mended state = (length plays ≢ plays_of state.head) ⊎ (length plays ≤ plays_before (resumes state mended))
 
--- why a run that stands there can't go on: there are other plays; a step reads a result that is gone; or a group would be over its limit
+-- why a run in this state can't continue: there are other plays; a step reads a lost result; or a group would exceed its limit
 abbrev pub RefusesToGoOn : FleetView → List Play → List ℕ → JournalState → ResumeFault → Type 0
 RefusesToGoOn fleet plays mended state fault.OtherInputs = HasOtherPlays plays mended state
 RefusesToGoOn fleet plays mended state (fault.NeedsResult name) = needed_again plays (resumes state mended) ≡ Some (string_bytes name)
@@ -107,7 +108,8 @@ RefusesToGoOn fleet plays mended state (fault.Texts texts) = ⊥
 RefusesToGoOn fleet plays mended state (fault.Journal journal) = ⊥
 RefusesToGoOn fleet plays mended state (fault.Mended names) = ⊥
 
--- what both texts say, and where the run stands that began with them, by its journal; and what it goes on with, with these hosts up by now
+-- the contents of both files, the state by its journal of the run that started with them, and what it resumes with, with these hosts back
+-- up
 pub record IsResumption (inventory playbook journal names : List ℕ) (takes_others : Bool) (resumption : Resumption) : Type 0 where
   pub vars : List Vars
   pub hosts : AreHostsIn inventory resumption.fleet vars
@@ -118,12 +120,13 @@ pub record IsResumption (inventory playbook journal names : List ℕ) (takes_oth
   pub own : IsOwnJournal resumption.fleet inventory playbook takes_others journal state
   pub gone : IsResumedFrom resumption.fleet resumption.plays.items vars mended state resumption
 
--- where a run of these texts stands that has said which it is, and nothing else
+-- the state of a run of these files that has recorded only its head
 abbrev pub begun_state : FleetView → List ℕ → List ℕ → List Play → JournalState
 begun_state fleet inventory playbook plays =
     begins (start fleet) (record { inventory = digest_of inventory; playbook = digest_of playbook; plays = min (length plays) most_number })
 
--- what both texts say, and what a run of them begins with, with these hosts up by now: as one goes on that has said which it is, and nothing else
+-- the contents of both files, and what a run of them starts with, with these hosts back up: as a run resumes that has recorded only its
+-- head
 pub record IsMendedBeginning (inventory playbook names : List ℕ) (beginning : Resumption) : Type 0 where
   pub vars : List Vars
   pub hosts : AreHostsIn inventory beginning.fleet vars
@@ -132,13 +135,13 @@ pub record IsMendedBeginning (inventory playbook names : List ℕ) (beginning : 
   pub named : IsMended beginning.fleet names mended
   pub gone : IsResumedFrom beginning.fleet beginning.plays.items vars mended (begun_state beginning.fleet inventory playbook beginning.plays.items) beginning
 
--- the names are those of hosts, and a run that has said which it is, and nothing else, can't go on
+-- the names are those of hosts, and a run that has recorded only its head can't continue
 pub record CanNotBegin (fleet : FleetView) (inventory playbook names : List ℕ) (plays : List Play) (fault : ResumeFault) : Type 0 where
   pub mended : List ℕ
   pub named : IsMended fleet names mended
   pub why : RefusesToGoOn fleet plays mended (begun_state fleet inventory playbook plays) fault
 
--- both texts are accepted: the names are refused, or such a run can't begin
+-- both files are accepted: the names are rejected, or such a run can't start
 pub record RefusesToMend (inventory playbook names : List ℕ) (fault : ResumeFault) : Type 0 where
   pub fleet : FleetView
   pub vars : List Vars
@@ -147,7 +150,7 @@ pub record RefusesToMend (inventory playbook names : List ℕ) (fault : ResumeFa
   pub says : ArePlaysIn fleet playbook plays
   pub why : RefusesMended fleet names fault ⊎ CanNotBegin fleet inventory playbook names plays fault
 
--- why nothing begins
+-- why nothing starts
 abbrev pub RefusesToBegin : List ℕ → List ℕ → List ℕ → ResumeFault → Type 0
 RefusesToBegin inventory playbook names (fault.Texts texts) = running.RefusesTexts inventory playbook texts
 RefusesToBegin inventory playbook names fault.Memory = Unit {0}
@@ -157,25 +160,25 @@ RefusesToBegin inventory playbook names fault.OtherInputs = RefusesToMend invent
 RefusesToBegin inventory playbook names (fault.Over over) = RefusesToMend inventory playbook names (fault.Over over)
 RefusesToBegin inventory playbook names (fault.NeedsResult name) = RefusesToMend inventory playbook names (fault.NeedsResult name)
 
--- the journal is that of a run that stands there, and it can't go on
+-- the journal is that of a run in this state, and it can't continue
 pub record CanNotGoOn (fleet : FleetView) (inventory playbook journal : List ℕ) (takes_others : Bool) (plays : List Play) (mended : List ℕ) (fault : ResumeFault) : Type 0 where
   pub state : JournalState
   pub own : IsOwnJournal fleet inventory playbook takes_others journal state
   pub why : RefusesToGoOn fleet plays mended state fault
 
--- the names are those of hosts, and the journal is refused, or the run can't go on
+-- the names are those of hosts, and the journal is rejected, or the run can't continue
 pub record RefusesNamed (fleet : FleetView) (inventory playbook journal names : List ℕ) (takes_others : Bool) (plays : List Play) (fault : ResumeFault) : Type 0 where
   pub mended : List ℕ
   pub named : IsMended fleet names mended
   pub why : RefusesJournal fleet inventory playbook takes_others journal fault ⊎ CanNotGoOn fleet inventory playbook journal takes_others plays mended fault
 
--- the run can go on so: the play is there, all patterns name something, and the play may begin so
+-- the run can continue this way: the play exists, all patterns match something, and the play may start with these statuses
 pub record CanRun (resumption : Resumption) : Type 0 where
   pub play : resumption.beginning.plays_before < length resumption.plays.items
   pub known : find (names_nothing resumption.fleet) (named_parts resumption.plays.items) ≡ None
   pub starts : MayStart resumption.fleet resumption.beginning.start
 
--- both texts are accepted: the names are refused, or what stands behind them
+-- both files are accepted: the names are rejected, or what follows them
 pub record RefusesBehind (inventory playbook journal names : List ℕ) (takes_others : Bool) (fault : ResumeFault) : Type 0 where
   pub fleet : FleetView
   pub vars : List Vars
@@ -184,7 +187,7 @@ pub record RefusesBehind (inventory playbook journal names : List ℕ) (takes_ot
   pub says : ArePlaysIn fleet playbook plays
   pub why : RefusesMended fleet names fault ⊎ RefusesNamed fleet inventory playbook journal names takes_others plays fault
 
--- why nothing goes on
+-- why nothing is resumed
 abbrev pub RefusesToResume : List ℕ → List ℕ → List ℕ → List ℕ → Bool → ResumeFault → Type 0
 RefusesToResume inventory playbook journal names takes_others (fault.Texts texts) = running.RefusesTexts inventory playbook texts
 RefusesToResume inventory playbook journal names takes_others fault.Memory = Unit {0}

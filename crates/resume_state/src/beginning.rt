@@ -1,4 +1,4 @@
-//! What a run goes on with.
+//! What a run resumes with.
 ghost use Rattle.std.specs.Prelude.{◌≡◌, IfOk, None, find, length};
 ghost use Rattle.domains.specs.Ids.{host_numbers};
 ghost use Rattle.domains.specs.Patterns.{names_nothing};
@@ -19,7 +19,7 @@ use journal::Journal;
 use play_model::Play;
 use std::alloc::{AllocError, Global};
 
-/// How many plays stand before the one with which a run goes on.
+/// Returns how many plays precede the one with which a run resumes.
 pub(crate) fn plays_before(journal: &Journal<'_>) -> usize
     ensures { result ≡ model.plays_before (shown_journal journal.now) }
 {
@@ -31,7 +31,7 @@ pub(crate) fn plays_before(journal: &Journal<'_>) -> usize
     }
 }
 
-/// The statuses with which the play goes on that is for these hosts, or, where it is not under way, begins.
+/// Returns the statuses with which the play for these hosts continues, or with which it starts if none was running.
 fn start_for(
     alloc: Global,
     fleet: &Fleet,
@@ -48,7 +48,7 @@ fn start_for(
     Ok(statuses)
 }
 
-/// The same of a play.
+/// Likewise for a play.
 pub(crate) fn start_play(
     alloc: Global,
     fleet: &Fleet,

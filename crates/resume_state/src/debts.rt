@@ -1,4 +1,4 @@
-//! What hosts owe that are mended.
+//! What hosts that are back up owe.
 ghost use Rattle.std.specs.Prelude.{◌∷◌, []};
 ghost use Rattle.domains.specs.Ids.{host_numbers};
 ghost use Rattle.resume_state.specs.Debts.{OweAmong};
@@ -6,7 +6,8 @@ ghost use Rattle.resume_state.specs.Debts.{OweAmong};
 use group_tree::HostId;
 use host_vars::Vars;
 
-/// The hosts as they begin the play that goes on: these owe its handlers. A number that no host has is passed over.
+/// Returns the variables with which the hosts enter the play that continues, where these hosts owe its handlers. Ignores a number that no
+/// host has.
 pub(crate) fn with_debts(mut vars: Vec<Vars>, owing: &[HostId]) -> Vec<Vars>
     ensures { OweAmong (host_numbers owing.now) vars.items result.items }
 {

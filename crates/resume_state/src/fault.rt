@@ -4,19 +4,19 @@ use journal::JournalFault;
 use run_command::RunTextFault;
 use std::alloc::AllocError;
 
-/// Why a run is not resumed. Nothing was started, and the journal is as it was.
+/// Why a run is not resumed. Nothing was started, and the journal is unchanged.
 #[derive(Debug, Drop)]
 pub enum ResumeFault {
-    /// The inventory or the playbook is refused, as a run refuses it.
+    /// The inventory or the playbook is rejected, as a run would reject it.
     Texts(RunTextFault),
     Journal(JournalFault),
-    /// The journal is that of a run that began with another inventory or playbook.
+    /// The journal is of a run that started with another inventory or playbook.
     OtherInputs,
-    /// A part of the names of the hosts that are up by now names nothing.
+    /// A part of the names of the hosts that are back up matches nothing.
     Mended(PatternFault),
     /// More hosts of a group are down than its limit.
     Over(FleetFault),
-    /// A step reads what a step of an earlier play registered, which no journal has.
+    /// A step reads a result that a step of an earlier play registered; journals don't contain results.
     NeedsResult { name: String },
     Memory,
 }

@@ -1,4 +1,4 @@
-//! From the texts of an inventory, a playbook and a journal to what a run goes on with.
+//! From an inventory, a playbook and a journal to what a run resumes with.
 ghost use Rattle.std.specs.Prelude.{◌≡◌, ◌≤◌, IfErr, IfOk, None, find, length};
 ghost use Rattle.domains.specs.Ids.{host_numbers};
 ghost use Rattle.domains.specs.Patterns.{names_nothing};
@@ -22,7 +22,7 @@ use roll_run::Start;
 use run_command::{Beginning, Inputs, RunTextFault, read_inputs};
 use std::alloc::Global;
 
-/// What is asked for: whose run is to go on, the names of the hosts that are up by now, and whether the texts may be others than those that it began with.
+/// A request: the journal of the run to resume, the names of the hosts that are back up, and whether changed inputs are accepted.
 #[derive(Clone, Copy)]
 pub struct Wish<'w> {
     pub journal: &'w [u8],
@@ -30,19 +30,19 @@ pub struct Wish<'w> {
     pub takes_others: bool,
 }
 
-/// What a run goes on with.
+/// What a run resumes with.
 #[derive(Drop)]
 pub struct Resumption {
     pub fleet: Fleet,
     pub plays: Vec<Play>,
     pub beginning: Beginning,
-    /// The hosts that are up by now.
+    /// The hosts that are back up.
     pub mended: Vec<HostId>,
-    /// Whether the first play is the one in which it broke off.
+    /// Whether the first play is the interrupted one.
     pub goes_on: bool,
 }
 
-/// The hosts that are named as up by now. The first part of the names that names nothing refuses them; otherwise only want of memory does.
+/// Returns the hosts that are named as back up. Fails at the first part of the names that matches nothing, or if an allocation fails.
 pub fn mended_hosts(alloc: Global, fleet: &Fleet, mended: &str) -> Result<Vec<HostId>, ResumeFault>
     ensures ok { IfOk result (λ hosts. IsMended fleet.now mended.now (host_numbers hosts.items)) }
     ensures err { IfErr result (RefusesMended fleet.now mended.now) }
@@ -53,7 +53,7 @@ pub fn mended_hosts(alloc: Global, fleet: &Fleet, mended: &str) -> Result<Vec<Ho
     }
 }
 
-/// Puts together what a run goes on with that stands there by its journal, where it can go on.
+/// Assembles what a run resumes with after the state of its journal, if it can resume.
 fn resume(
     alloc: Global,
     fleet: Fleet,
@@ -97,7 +97,8 @@ fn resume(
     })
 }
 
-/// Where a run of these texts stands that has said which it is, and nothing else: what a run begins with that has no journal, with these hosts up by now.
+/// Returns what a run without a journal starts with, given that these hosts are back up. Uses the state of a run that has recorded only its
+/// head.
 fn begin(
     alloc: Global,
     inputs: Inputs,
@@ -127,8 +128,8 @@ fn begin(
     resume(alloc, fleet, plays, start.vars, mended, journal)
 }
 
-/// Reads the texts, and says what a run begins with that has no journal, where hosts are up by now that the inventory has as down. First the inventory's faults are told, then the
-/// playbook's, then the names of these hosts.
+/// Reads the inventory and the playbook, and returns what a run without a journal starts with. The hosts in `mended` are up though the
+/// inventory marks them as down. Reports errors of the inventory first, then of the playbook, then of these names.
 pub fn begin_inputs(
     alloc: Global,
     inventory: &[u8],
@@ -150,8 +151,9 @@ pub fn begin_inputs(
     begin(alloc, inputs, inventory, playbook, mended)
 }
 
-/// Reads the texts and the journal, and says what the run goes on with. First the inventory's faults are told, then the playbook's, then the names of hosts that are up by
-/// now, then the journal's; and then that the run can't go on: it has had more plays, a step reads a result of an earlier play, or a group is over its limit.
+/// Reads the inventory, the playbook and the journal, and returns what the run resumes with. Reports errors of the inventory first, then of
+/// the playbook, of the names of hosts that are back up, and of the journal. Last come the reasons why the run can't resume. The number of
+/// plays differs, the run has had all of them, a step reads a lost result, or a group exceeds its limit.
 pub fn resume_inputs(
     alloc: Global,
     inventory: &[u8],

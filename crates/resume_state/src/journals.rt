@@ -1,4 +1,4 @@
-//! Reading the journal of a run that began with two texts.
+//! Reading the journal of a run of two files.
 ghost use Rattle.std.specs.Prelude.{◌≡◌, ◌≤◌, IfErr, IfOk, length, true};
 ghost use Rattle.journal.specs.Lines.{max_body};
 ghost use Rattle.journal.specs.Shown.{shown_journal};
@@ -10,7 +10,7 @@ use domains::Fleet;
 use journal::{Journal, JournalFault, digest_of, first_line, read_journal};
 use std::alloc::{AllocError, Global};
 
-/// Whether the run of a journal began with these texts.
+/// Reports whether the run of a journal started with these files.
 fn is_of(journal: &Journal<'_>, inventory: &[u8], playbook: &[u8]) -> bool
     ensures { result ≡ spec.is_of inventory.now playbook.now (shown_journal journal.now) }
 {
@@ -23,7 +23,8 @@ fn is_of(journal: &Journal<'_>, inventory: &[u8], playbook: &[u8]) -> bool
     }
 }
 
-/// Whether the first line of a text is that of a run that began with other texts: names that these don't have would make a later line bad.
+/// Reports whether the first line is of a run that started with other files. Checked first because a name that these files don't have would
+/// make a later line invalid.
 fn is_of_other(
     alloc: Global,
     fleet: &Fleet,
@@ -41,7 +42,7 @@ fn is_of_other(
     }
 }
 
-/// Reads the journal of a run that began with these texts, or with others where that is said to be meant.
+/// Reads the journal of a run that started with these files, or with others if those are accepted.
 pub(crate) fn read_own<'t>(
     alloc: Global,
     fleet: &Fleet,

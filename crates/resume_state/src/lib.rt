@@ -1,4 +1,4 @@
-//! A run that broke off is resumed: from its journal and the texts that it began with to what it goes on with.
+//! Resuming an interrupted run: from its journal and its input files to what it resumes with.
 #![tactic(auto)]
 
 mod beginning;

@@ -1,4 +1,4 @@
-//! Which results a run that goes on reads though they are gone.
+//! Which results a resumed run reads though they are lost.
 ghost use Rattle.std.specs.Prelude.{◌≡◌, ◌<◌, IfOk, length, option_map};
 ghost use Rattle.std.specs.List.{list_any};
 ghost use Rattle.journal.specs.Shown.{shown_journal};
@@ -10,7 +10,7 @@ use play_model::Play;
 use result_dependencies::needed_result;
 use std::alloc::{AllocError, Global};
 
-/// Whether somebody was updated in the play that goes on, and doesn't run it again.
+/// Reports whether a host was updated in the play that continues; such a host doesn't run it again.
 pub(crate) fn has_updated(journal: &Journal<'_>) -> bool
     ensures { result ≡ spec.has_updated (shown_journal journal.now) }
 {
@@ -32,7 +32,9 @@ fn is_updated(status: Status) -> bool
     }
 }
 
-/// The first result that is read of a play before the one that goes on behind so many, or, where it has left hosts that don't run it again, of that too. Only want of memory refuses it.
+/// Returns the first lost result that a later step reads. An earlier play registers it, and the play after `before` plays or a later one
+/// reads it. If `is_left` is true, hosts don't run that play again, so the results that it registers for later plays count too. Fails only
+/// if an allocation fails.
 pub(crate) fn needed_behind<'p>(
     alloc: Global,
     plays: &'p [Play],

@@ -1,4 +1,4 @@
-//! Groups of which more hosts are down than their limit.
+//! Groups with more hosts down than their limit.
 ghost use Rattle.std.specs.Prelude.{◌≡◌, ◌<◌, IfErr, IfNone, IfSome, OnOk, length};
 ghost use Rattle.fleet_states.specs.Groups as model;
 ghost use Rattle.fleet_states.specs.Groups.{IsSafe, group_at, groups_of};
@@ -20,7 +20,7 @@ fn is_over(fleet: &Fleet, statuses: &[Status], group: GroupId) -> bool
     }
 }
 
-/// The first group that is over its limit, outer groups first.
+/// Returns the first group that exceeds its limit, outer groups first.
 fn first_over(fleet: &Fleet, statuses: &[Status]) -> Option<GroupId>
     ensures none { IfNone result (IsSafe (groups_of fleet.now) statuses.now) }
     ensures some { IfSome result (λ group. IsFirstOver fleet.now statuses.now group.index) }
@@ -34,7 +34,7 @@ fn first_over(fleet: &Fleet, statuses: &[Status]) -> Option<GroupId>
     None
 }
 
-/// Refuses statuses by which a group is over its limit, with the first such group.
+/// Rejects statuses by which a group exceeds its limit, and reports the first such group.
 pub(crate) fn refuse_over(
     alloc: Global,
     fleet: &Fleet,

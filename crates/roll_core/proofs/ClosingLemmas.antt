@@ -14,7 +14,7 @@ use Rattle.down_ledger.specs.Rosters.{HasChanged, RosterView, seated_at, with_ho
 use Rattle.down_ledger.proofs.OpeningLemmas.{seated_within}
 use Rattle.event_log.specs.States.{at_rest}
 
--- a share that is lent, rests with a status, and is given up
+-- a share that is taken out, stored with a status, and given up
 pub kept_down : (old lent rested new : RosterView) (share host : HostId) (status : Status) → lent ≡ record old { seated = set old.seated host.index false } → share ≡ host
     → rested ≡ with_host lent share.index status true → new ≡ record rested { seated = set rested.seated host.index false } → new ≡ with_host old host.index status false
 kept_down old lent rested new share host status lends same rests keeps =
@@ -42,7 +42,7 @@ rest_again (Some step) Halted = refl
 rest_again (Some step) Off = refl
 rest_again (Some step) Held = refl
 
--- a host that is read again, after it may have changed, changes to the same
+-- a host that is read again, after a possible change, changes to the same status
 pub again : (halt : Option ℕ) (hosts : List ℕ) (statuses : List Status) (host : ℕ) → host < length statuses
     → at_rest halt (status_at (changed (at_rest halt) hosts statuses) host) ≡ at_rest halt (status_at statuses host)
 again halt hosts statuses host within =
@@ -52,7 +52,7 @@ again halt hosts statuses host within =
     either true = rest_again halt (status_at statuses host)
     either false = refl
 
--- a host whose turn has not come is as it was
+-- a host whose turn has not come is unchanged
 pub still_down : (old now : RosterView) (hosts : List HostId) (i : ℕ) (d : HostId) (halt : Option ℕ) → i < length hosts
     → length old.seated ≡ length old.statuses → are_distinct (host_numbers hosts) ≡ true
     → ((host : ℕ) → has_number host (host_numbers hosts) ≡ true → seated_at old.seated host ≡ true)

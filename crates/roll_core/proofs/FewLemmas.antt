@@ -1,4 +1,4 @@
--- Distinct numbers below a bound are few.
+-- There are few distinct numbers below a bound.
 use Rattle.std.proofs.Common.{◌≡◌, ℕ, zero, suc, ◌≤◌, ◌<◌, nat_eq, Bool, true, false, not, List, [], ◌∷◌, length, arith, inl, inr, ◌⊎◌, sym, ap, ◌∙◌, refl}
 use Rattle.std.proofs.lemmas.Bool.{both_ways, cases_lt, eq-eqb, or_left}
 use Rattle.fleet_index.specs.NumberLists.{has_number}

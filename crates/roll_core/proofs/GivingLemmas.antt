@@ -1,4 +1,4 @@
--- What a kernel hands out.
+-- What a kernel issues.
 use Rattle.std.proofs.Common.{ℕ, ◌∙◌}
 use Rattle.host_track.specs.Asking.{Request}
 use Rattle.roll_core.specs.declared.claim.Handed.{Handed}

@@ -24,12 +24,12 @@ some_same one other e = cc
 reports_more : (log : List Event) (event : Event) → reports_in (log ++ event ∷ []) ≡ reports_in log + cond (is_report event) 1 0
 reports_more log event = sum_by_push (λ (e : Event). cond (is_report e) 1 0) log event
 
--- what follows from what an answer promises
+-- a consequence of what an answer guarantees
 pub on_ok : {V E A B : Type 0} (answer : Result V E) → (A → B) → OnOk answer A → OnOk answer B
 on_ok (Ok value) gives a = gives a
 on_ok (Err fault) gives a = a
 
--- what one runner may tell and another tells as well
+-- what one runner may report, another may report as well
 pub end_by : (one other : Work → Ending → Type 0) → ((work : Work) (ending : Ending) → one work ending → other work ending) → (host step : ℕ) (request : Request) (ending : Ending) → MayEnd one host step request ending → MayEnd other host step request ending
 end_by one other gives host step (job words) ending may =
     gives (record { host = host; step = step; words = words }) ending may
@@ -41,7 +41,7 @@ module _ (may : Work → Ending → Type 0) where
   told_more roll state (first ∷ log) event told tells =
       (told.0, told_more roll (next roll state first) log event told.1 tells)
 
-  -- what a claim that is out has come to, the report of it tells
+  -- the report of a claim that is out records how the claim ended
   pub tells : (roll : Roll) (state : State) (completion : Completed) → IsOut roll state completion → MayComplete may completion → MayTell may roll state (event_in completion)
   tells roll state completion out end task named =
       let host = completion.host in
@@ -50,7 +50,7 @@ module _ (may : Work → Ending → Type 0) where
       subst (λ (t : Step). MayEnd may host completion.step (asked_of roll state host t) ending) (some_same out.task task (sym out.is ∙ named)) mine
 
   module _ (kernel : KernelView) (tallies total parts rest_parts rest_amount joined : ℕ) (kept : IsKept may kernel tallies total parts rest_parts rest_amount joined) where
-    -- by an event that tells of no program
+    -- the log grows by an event that records no program
     pub kept_quiet : (event : Event) → MayTell may (roll_of kernel) (state_of kernel) event → is_report event ≡ false → IsKept may (kernels.with_event kernel event) tallies total parts rest_parts rest_amount joined
     kept_quiet event tells quiet =
         let as_many : reports_in (kernel.log ++ event ∷ []) ≡ reports_in kernel.log = reports_more kernel.log event ∙ ap (λ b. reports_in kernel.log + cond b 1 0) quiet ∙ omega arith in
@@ -65,7 +65,7 @@ module _ (may : Work → Ending → Type 0) where
           all = λ none. kept.all none ∙ sym as_many;
         }
 
-    -- by an answer: such an event, or none where it is a refusal
+    -- the log grows by an answer: such an event, or none after a refusal
     pub kept_either : {V E : Type 0} (answer : Result V E) (event : Event) (new : KernelView) → MayTell may (roll_of kernel) (state_of kernel) event → is_report event ≡ false
         → OnOk answer (new ≡ kernels.with_event kernel event) → OnErr answer (new ≡ kernel)
         → IsKept may new tallies total parts rest_parts rest_amount joined
@@ -74,7 +74,7 @@ module _ (may : Work → Ending → Type 0) where
     kept_either (Err fault) event new tells quiet grown same =
         subst (λ (k : KernelView). IsKept may k tallies total parts rest_parts rest_amount joined) (sym same) kept
 
-    -- by a report that a tally has counted
+    -- the log grows by a report that a tally has counted
     pub kept_report : (event : Event) (now_total now_parts now_amount : ℕ) → MayTell may (roll_of kernel) (state_of kernel) event → is_report event ≡ true
         → now_total ≡ suc total → now_parts ≡ rest_parts → now_amount ≡ rest_amount → rest_parts < parts → length (kernel.log ++ event ∷ []) < 9223372036854775808
         → IsKept may (kernels.with_event kernel event) tallies now_total parts now_parts now_amount joined

@@ -1,4 +1,4 @@
--- A watcher that is told of what was entered.
+-- An observer that is notified of what was recorded.
 use Rattle.std.proofs.Common.{◌≡◌, ℕ, suc, ◌-◌, length, Option, Some, List, [], ◌∷◌, ◌++◌, map, sym, ap, ◌∙◌, refl, subst, arith}
 use Rattle.std.specs.List.{slice_get}
 use Rattle.std.proofs.lemmas.List.{append-nil, append_assoc}
@@ -39,7 +39,7 @@ tellings_more roll state (first ∷ log) event =
     ∙ sym (append_assoc (told_at roll state first) (tellings roll (next roll state first) log) (told_at roll (state_after roll (next roll state first) log) event))
 
 module _ {W : Type 0} (hears : W → W → FleetView → Play → Telling → Type 0) (kernel : KernelView) (before now : W) (told : IsTold hears kernel before) where
-  -- the log has one event more, and the watcher has heard what is told of it
+  -- the log has one more event, and the observer has received its notifications
   pub told_more : (event : Event) → HasHeard (Hears hears kernel) before now (told_at (roll_of kernel) (state_of kernel) event) → IsTold hears (with_event kernel event) now
   told_more event heard =
       let start = start_state (roll_of kernel) in
@@ -49,7 +49,7 @@ module _ {W : Type 0} (hears : W → W → FleetView → Play → Telling → Ty
         heard = subst (λ (l : List Telling). HasHeard (Hears hears kernel) told.began now l) (sym (tellings_more (roll_of kernel) start kernel.log event)) all;
       }
 
--- the statuses of a batch that is open
+-- the statuses while a batch is open
 pub opening_is : (kernel : KernelView) (batch : List ℕ) (statuses : List Status) → statuses ≡ (state_of (with_event kernel (opened batch))).statuses
     → opening batch statuses ∷ [] ≡ told_at (roll_of kernel) (state_of kernel) (opened batch)
 opening_is kernel batch statuses are =
@@ -62,13 +62,13 @@ begun_is host step request (Run claim) is =
     of_host ∙ of_step ∙ sym (ap (begun host step) is.words)
 begun_is host step request (Settled completion) is = sym (ap (begun host step) is.outcome)
 
--- what is told of a claim is what was handed out
+-- the notification of a claim is what was issued
 pub claim_told : (old new : KernelView) (out : Handed) (is : IsHandedOut old new out) → begun_by out ≡ told_at (roll_of old) (state_of old) (claimed is.host is.step)
 claim_told old new out is =
     begun_is is.host is.step (asked_of (roll_of old) (state_of old) is.host is.task) out is.handed
     ∙ sym (ap (begun_at (roll_of old) (state_of old) is.host is.step) is.at)
 
--- what is told of a report is what was found of it
+-- the notification of a report is what its row was found to be
 pub report_told : (kernel : KernelView) (completion : Completed) (entered : Entered) (out : IsOut (roll_of kernel) (state_of kernel) completion)
     → IsFoundAt (roll_of kernel) (state_of kernel) completion.host completion.step completion.ending entered
     → row completion.host completion.step completion.ending (wanted completion.ending (undefined_name entered)) entered.judged ∷ []
@@ -104,7 +104,7 @@ last_of (entry ∷ other ∷ entries) (first ∷ log) event same =
       is = later.is;
     }
 
--- before anything has happened nothing was told
+-- before anything has happened there are no notifications
 pub untold : {W : Type 0} (hears : W → W → FleetView → Play → Telling → Type 0) (kernel : KernelView) (watch : W) → kernel.log ≡ [] → IsTold hears kernel watch
 untold hears kernel watch none = record {
   began = watch;

@@ -1,4 +1,4 @@
--- What the kernel keeps of the hosts and the work, event by event.
+-- What the kernel maintains about the hosts and the work, event by event.
 use Rattle.std.proofs.Common.{◌≡◌, ℕ, ◌≤◌, ◌<◌, nat_eq, Bool, true, false, ◌&&◌, ◌||◌, not, cond, Option, List, [], ◌∷◌, length, set, sym, ap, ◌∙◌, refl, subst, arith, inl, inr, ◌⊎◌}
 use Rattle.std.proofs.lemmas.List.{get_or-set_same, get_or-set_other, get_or_past, length-set}
 use Rattle.std.proofs.lemmas.Bool.{cases_eq, cases_lt, eq-eqb, ne_eqb, or_left}
@@ -20,7 +20,7 @@ and_false : (b : Bool) → (b && false) ≡ false
 and_false true = refl
 and_false false = refl
 
--- the work knows nothing of statuses
+-- the work does not depend on statuses
 work_aside : (roll : Roll) (state : State) (statuses : List Status) (work : BatchWork) → IsWorkOf roll state work → IsWorkOf roll (record state { statuses = statuses }) work
 work_aside roll state statuses work is =
     record {
@@ -39,16 +39,16 @@ work_aside roll state statuses work is =
     }
 
 module _ (roll : Roll) (state : State) (roster : RosterView) (work : BatchWork) (held : IsHeld roll state roster work) where
-  -- between two batches nobody's share rests
+  -- between two batches no host's share is stored
   pub nobody_rests : state.batch ≡ [] → NobodyRests roster
   nobody_rests bare host = held.shares host ∙ ap (λ b. b && not (has_number host state.out)) (ap (has_number host) bare)
 
-  -- once nobody is out the share of each host of the batch rests
+  -- once no host is out, the share of each host of the batch is stored
   pub all_rest : state.out ≡ [] → (host : ℕ) → has_number host state.batch ≡ true → seated_at roster.seated host ≡ true
   all_rest none host here =
       held.shares host ∙ ap (λ b. b && not (has_number host state.out)) here ∙ ap (λ l. not (has_number host l)) none
 
-  -- the share rests of a host of the batch that is not out
+  -- the share of a host of the batch that is not out is stored
   pub free_rests : (host : ℕ) → has_number host state.batch ≡ true → has_number host state.out ≡ false → seated_at roster.seated host ≡ true
   free_rests host here free = held.shares host ∙ ap (λ b. b && not (has_number host state.out)) here ∙ ap not free
 

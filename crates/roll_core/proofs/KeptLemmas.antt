@@ -1,4 +1,4 @@
--- What the kernel keeps, when its log grows by one event.
+-- The kernel's invariant when its log grows by one event.
 use Rattle.std.proofs.Common.{◌≡◌, ℕ, suc, ◌+◌, ◌≤◌, ◌<◌, true, false, Option, replicate, inl, inr, ◌⊎◌, List, [], ◌∷◌, ◌++◌, length, take, sym, ap, ◌∙◌, subst, arith}
 use Rattle.std.proofs.lemmas.List.{get_or-replicate, get_or_past, length-append, length-map, length-replicate, map-append, take_all}
 use Rattle.std.proofs.lemmas.Bool.{cases_lt}
@@ -32,7 +32,7 @@ use Rattle.roll_core.proofs.HeldLemmas.{nobody_rests}
 use Rattle.roll_core.proofs.StepLemmas.{host_within}
 use Rattle.roll_core.proofs.LogLemmas.{IsBehind, as_many, at_work, none_ahead}
 
--- what is seen of a kernel to whose log one event was put
+-- the view of a kernel to whose log one event was appended
 pub view_more : (old new : RosterView) (play : Play) (forks : ℕ) (start : List Status) (vars : List Vars) (log more : List Entry) (entry : Entry) → new.fleet ≡ old.fleet → more ≡ log ++ entry ∷ []
     → view_of new play forks start vars more ≡ with_event (view_of old play forks start vars log) (event_of entry)
 view_more old new play forks start vars log more entry fleet grown =
@@ -59,7 +59,7 @@ module _ (kernel : KernelView) (roster : RosterView) (work : BatchWork) (capacit
       (legal_fronts (roll_of kernel) kernel.log kept.safe kept.legal (length kernel.log)) in
       subst (IsSafe (groups_of kernel.fleet)) (sym kept.held.statuses) now
 
-  -- nobody runs where no batch is open
+  -- no host is running if no batch is open
   pub kept_rest : (state_of kernel).phase ≡ between → NobodyRuns roster.statuses
   kept_rest at =
       let all : take (length kernel.log) kernel.log ≡ kernel.log = take_all (length kernel.log) kernel.log (omega arith) in
@@ -76,7 +76,7 @@ module _ (kernel : KernelView) (roster : RosterView) (work : BatchWork) (capacit
       (rows_are_few (roll_of kernel) kernel.log kept.legal (length kernel.log) host) in
       omega (arith, few, kernel.play.sound.few_steps)
 
-  -- one more event keeps all of it
+  -- one more event preserves all of it
   pub kept_more : (event : Event) (new : KernelView) (roster' : RosterView) (work' : BatchWork) (capacity' : ℕ) → Allowed (roll_of kernel) (state_of kernel) event → new ≡ with_event kernel event
       → IsHeld (roll_of kernel) (next (roll_of kernel) (state_of kernel) event) roster' work'
       → length kernel.log + suc (owed_by (roll_of kernel) (next (roll_of kernel) (state_of kernel) event)) ≤ capacity'
@@ -94,7 +94,7 @@ module _ (kernel : KernelView) (roster : RosterView) (work : BatchWork) (capacit
         places = omega (arith, room, length-append kernel.log (event ∷ []), ap (owed_by (roll_of kernel)) (state_more kernel event));
       })
 
-  -- and so does more room in the log
+  -- and so does more capacity of the log
   pub kept_roomy : (work' : BatchWork) (capacity' : ℕ) → capacity ≤ capacity' → IsHeld (roll_of kernel) (state_of kernel) roster work' → IsKept kernel roster work' capacity'
   kept_roomy work' capacity' more held =
       record {
@@ -144,7 +144,7 @@ module _ (kernel : KernelView) (roster : RosterView) (work : BatchWork) (capacit
   pub kept_bare : (state_of kernel).phase ≡ between → (state_of kernel).batch ≡ []
   kept_bare at = (kept_at_work kernel roster work capacity kept).bare at
 
-  -- nobody is out unless a batch is at a step
+  -- no host is out unless a batch is at a step
   pub kept_idle : ((step : ℕ) → (state_of kernel).phase ≡ working step → ⊥) → (state_of kernel).out ≡ []
   kept_idle idle = (kept_at_work kernel roster work capacity kept).nobody idle
 
@@ -169,7 +169,7 @@ module _ (kernel : KernelView) (roster : RosterView) (work : BatchWork) (capacit
   kept_many =
       as_many (roll_of kernel) (start_state (roll_of kernel)) kernel.log ∙ sym kept.held.works.hosts
 
-  -- hosts that make a batch are fresh
+  -- hosts that form a batch are fresh
   pub kept_fresh : (hosts : List ℕ) → MayOpen (roll_of kernel) (state_of kernel) hosts → IsFresh (state_of kernel) hosts
   kept_fresh hosts may =
       record {
@@ -178,7 +178,7 @@ module _ (kernel : KernelView) (roster : RosterView) (work : BatchWork) (capacit
         rows = λ host here. (kept_at_work kernel roster work capacity kept).fresh host (ready_waits (state_of kernel).statuses hosts host may.ready here);
       }
 
--- a kernel to whose log one event was put
+-- a kernel to whose log one event was appended
 pub kept_grown : (old new : RosterView) (play : Play) (forks : ℕ) (start : List Status) (vars : List Vars) (log more : List Entry) (entry : Entry)
     (event : Event) (was now : BatchWork) (capacity capacity' : ℕ) → IsKept (view_of old play forks start vars log) old was capacity
     → event_of entry ≡ event → new.fleet ≡ old.fleet → more ≡ log ++ entry ∷ [] → Allowed (roll_of (view_of old play forks start vars log)) (state_of (view_of old play forks start vars log)) event

@@ -1,4 +1,4 @@
--- What is left of each host, by the summaries of its rows.
+-- The final data of each host, from the summaries of its rows.
 use Rattle.std.proofs.Common.{◌≡◌, ℕ, zero, suc, ◌<◌, Some, option_map, List, [], ◌∷◌, length, map, sym, ap, ◌∙◌, refl}
 use Rattle.std.specs.List.{slice_get}
 use Rattle.std.proofs.lemmas.List.{length-map}
@@ -12,7 +12,7 @@ use Rattle.event_log.specs.declared.work.BatchWork.{BatchWork}
 use Rattle.event_log.specs.Works.{IsWorkOf}
 use Rattle.roll_core.specs.Leavings.{AreCounted, AreKnown}
 
--- what stands at a place of a list that was read off another
+-- the item at an index of a mapped list
 read_off : {X Y : Type 0} (f : X → Y) (xs : List X) (place : ℕ) (y : Y) → slice_get (map f xs) place ≡ Some y → (x : X) × (slice_get xs place ≡ Some x) × (f x ≡ y)
 read_off f [] place y e = absurd (cc)
 read_off f (x ∷ xs) zero y e = (x, refl, some_same (f x) y e)
@@ -27,7 +27,7 @@ read_on f (first ∷ xs) zero x e = ap (option_map f) e
 read_on f (first ∷ xs) (suc place) x e = read_on f xs place x e
 
 module _ (roll : Roll) (state : State) (work : BatchWork) (is : IsWorkOf roll state work) where
-  -- what is known of a host whose summary that is, once the play is over
+  -- what is known of a host with this summary after the play
   abbrev left_of : Summary → Known
   left_of summary = without_debt (known_of summary.vars)
 

@@ -1,4 +1,4 @@
--- A legal log that grows, and what holds after it.
+-- A legal log that grows, and what holds after that.
 use Rattle.std.proofs.Common.{◌≡◌, ℕ, ◌<◌, nat_eq, Bool, true, false, ◌||◌, if◌then◌else◌, Option, Some, None, List, [], ◌∷◌, ◌++◌, length, set, sym, ap, ◌∙◌, refl, subst, arith, inl, inr, ◌⊎◌}
 use Rattle.std.proofs.lemmas.List.{length-set}
 use Rattle.std.proofs.lemmas.List.Folds.{list_any-append}
@@ -17,7 +17,7 @@ use Rattle.event_log.specs.States.{Phase, State, between, working, ended, start_
 use Rattle.event_log.specs.Logs.{Allowed, IsLegal, closed_state, end_state, next, state_after}
 use Rattle.event_log.proofs.WorkLemmas.{AtWork, later_is, next_at_work, other_rows, own_rows, start_at_work, step_of}
 
--- no host of the open batch has a row of a step behind the present one
+-- no host of the open batch has a row of a later step than the current one
 pub record IsBehind (state : State) : Type 0 where
   pub rows : (host step place : ℕ) → state.phase ≡ working step → has_number host state.batch ≡ true → step < place → has_row (state.rows host) place ≡ false
 

@@ -1,4 +1,4 @@
--- What is out, and stays so until it is reported.
+-- A claim stays out until it is reported.
 use Rattle.std.proofs.Common.{◌≡◌, ℕ, nat_eq, true, Some, List, sym, ap, ◌∙◌, subst}
 use Rattle.std.proofs.lemmas.Bool.{eq-eqb, or_left, or_right}
 use Rattle.fleet_index.specs.NumberLists.{has_number}
@@ -57,7 +57,7 @@ module _ (old : KernelView) (host step : ℕ) where
   WaitsFor (Run claim) = (ending : Ending) → Waits (completion_of claim ending)
   WaitsFor (Settled completion) = Waits completion
 
-  -- the kernel waits for whatever is of this host and step, and was asked for so
+  -- the kernel waits for every completion of this host and step with this request
   abbrev WaitsForAll : Request → Type 0
   WaitsForAll request =
       (completion : Completed) → completion.host ≡ host → completion.step ≡ step → completion.request ≡ request → Waits completion

@@ -1,4 +1,4 @@
--- The log has places for the events to come.
+-- The log has capacity for the events needed.
 use Rattle.std.proofs.Common.{◌≡◌, ℕ, suc, ◌+◌, ◌-◌, ◌≤◌, ◌<◌, nat_lt, Bool, true, false, not, Option, Some, None, List, [], length, if◌then◌else◌, sym, ap, refl, subst, arith}
 use Rattle.std.proofs.lemmas.Bool.{ltb-true}
 use Rattle.fleet_index.specs.NumberLists.{has_number}
@@ -25,7 +25,7 @@ pub owed_reported : (roll : Roll) (state : State) (host step : ℕ) (ending : En
 owed_reported roll state host step ending distinct here =
     omega (arith, length_without host state.out distinct here)
 
--- a step that is passed leaves one barrier less, or the closing alone
+-- after a passed step one barrier fewer is needed, or only the closing
 left_after : (play : Play) (state : State) (step : ℕ) → step < length play.steps.items
     → suc (events_left (length play.steps.items) (phase_after play state step)) ≤ suc (length play.steps.items - step)
 left_after play state step within =

@@ -1,4 +1,4 @@
--- What the kernel keeps of the hosts and the work when a host has reported.
+-- What the kernel maintains about the hosts and the work when a host has reported.
 use Rattle.std.proofs.Common.{◌≡◌, ℕ, ◌<◌, Bool, true, false, ◌&&◌, not, if◌then◌else◌, cond, List, length, set, sym, ap, ◌∙◌, refl, subst, arith, inl, inr, ◌⊎◌}
 use Rattle.std.proofs.lemmas.List.{get_or-set_same, get_or-set_other, length-set, set-get_or}
 use Rattle.std.proofs.lemmas.Bool.{both_ways, cases_eq}
@@ -39,7 +39,7 @@ module _ (roll : Roll) (state : State) (roster : RosterView) (work : BatchWork) 
   abbrev rows : List Entry
   rows = rows_with roll host (state.rows host) step ending
 
-  -- who has reported well keeps its status
+  -- a host that has not failed keeps its status
   statuses_after : (failed : Bool) → failed ≡ has_failed rows → set roster.statuses host (cond failed Failed Running) ≡ with_failure host rows state.statuses
   statuses_after failed is =
       ap (λ l. set l host (cond failed Failed Running)) held.statuses ∙ ap (λ b. set state.statuses host (cond b Failed Running)) is ∙ by_case (has_failed rows)

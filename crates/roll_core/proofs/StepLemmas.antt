@@ -1,4 +1,4 @@
--- The work while a batch is at a step: who is awaited, who is out, and with what.
+-- The work while a batch is at a step: which hosts are awaited, which are out, and with what request.
 use Rattle.std.proofs.Common.{◌≡◌, ℕ, zero, suc, ◌<◌, nat_eq, Bool, true, false, ◌&&◌, ◌||◌, ◌⊎◌, inl, inr, cond, Decides, Some, None, find, List, [], ◌∷◌, length, sym, ap, ◌∙◌, refl, subst, arith}
 use Rattle.std.specs.List.{list_any, slice_get}
 use Rattle.std.proofs.lemmas.Bool.{and_parts, both_ways, eq-eqb, eqb-true, ltb-true, or_cases, or_left, or_right}
@@ -36,13 +36,13 @@ get_in [] i within = absurd (omega (arith, within))
 get_in (x ∷ xs) zero within = (x, refl)
 get_in (x ∷ xs) (suc i) within = get_in xs i (omega (arith, within))
 
--- a test that each of them fails
+-- a test that all of them fail
 none_passes : (p : ℕ → Bool) (xs : List ℕ) → ((n : ℕ) → has_number n xs ≡ true → p n ≡ false) → list_any p xs ≡ false
 none_passes p [] fails = refl
 none_passes p (x ∷ xs) fails =
     ap (λ b. b || list_any p xs) (fails x (or_left (nat_eq x x) (has_number x xs) (eq-eqb x x refl))) ∙ none_passes p xs (λ n here. fails n (or_right (nat_eq n x) (has_number n xs) here))
 
--- where none is found each fails
+-- if none is found, all of them fail
 found_none : (p : ℕ → Bool) (xs : List ℕ) (n : ℕ) → find p xs ≡ None → has_number n xs ≡ true → p n ≡ false
 found_none p [] n none here = absurd (cc)
 found_none p (x ∷ xs) n none here =
@@ -61,7 +61,7 @@ stage_at Between step e = absurd (cc)
 stage_at (Working now) step e = ap Working (step_of now step e)
 stage_at (Ended halt) step e = absurd (cc)
 
--- how a batch goes on that has passed a step
+-- how a batch that has passed a step continues
 pub goes_on : (play : Play) (state : State) (step : ℕ) → GoesOn step (phase_after play state step)
 goes_on play state step =
     by_case (is_past play.max_fail (failures state) (length state.batch)) (is_last play step) (is_dead state)
@@ -76,7 +76,7 @@ pub ends_as : (way : StepEnd) → is_end way ≡ true → EndsAs (request_of way
 ends_as (Program words outcome) is = is
 ends_as (Settled outcome) is = refl
 
--- what was a claim that is out may be reported
+-- the completion of a claim that is out may be reported
 pub may_report : (roll : Roll) (state : State) (completion : Completed) → EndsAs completion.request completion.ending → IsOut roll state completion
     → MayReport roll state completion.host completion.step completion.ending
 may_report roll state completion ends out =
@@ -89,7 +89,7 @@ may_report roll state completion ends out =
     }
 
 module _ (roll : Roll) (state : State) (work : BatchWork) (is : IsWorkOf roll state work) where
-  -- who is out has been given something
+  -- a host that is out has a request
   pub out_given : (host : ℕ) → has_number host state.out ≡ true → (asked : StepRequest) × (turn_at work.turns.items host ≡ Out asked)
   out_given host here = by_case (turn_at work.turns.items host) refl
     where
@@ -118,7 +118,7 @@ module _ (roll : Roll) (state : State) (work : BatchWork) (is : IsWorkOf roll st
     pub task_at : (task : Step) × (step_at roll.play step ≡ Some task)
     task_at = get_in roll.play.steps.items step step_within
 
-    -- where nobody is awaited the batch may pass
+    -- if no host is awaited the batch may pass
     pub may_pass : find (λ host. awaits (turn_at work.turns.items host)) (host_numbers work.batch.items) ≡ None → MayPass roll state step
     may_pass none =
         record { at = at_step; reported = none_passes (λ host. is_awaited roll.play (state.rows host) step) state.batch over }
@@ -128,7 +128,7 @@ module _ (roll : Roll) (state : State) (work : BatchWork) (is : IsWorkOf roll st
             let named = ap (λ b. b && is_awaited_by roll.play state.phase (state.rows host)) here ∙ ap (λ p. is_awaited_by roll.play p (state.rows host)) at_step in
             sym named ∙ sym (is.awaited host) ∙ found_none (λ h. awaits (turn_at work.turns.items h)) (host_numbers work.batch.items) host none (ap (has_number host) is.batch ∙ here)
 
-    -- what a host that is out was given is what the step asks of it
+    -- the request of a host that is out is that of the step
     given : (host : ℕ) (asked : StepRequest) (task : Step) → turn_at work.turns.items host ≡ Out asked → step_at roll.play step ≡ Some task
         → (summary : Summary) × IsGiven roll state host summary.vars asked task
     given host asked task turn named =
@@ -158,6 +158,6 @@ module _ (roll : Roll) (state : State) (work : BatchWork) (is : IsWorkOf roll st
             let mine = given host asked.0 out.task asked.1 (subst (λ (n : ℕ). step_at roll.play n ≡ Some out.task) (sym same) out.is) in
             record { asked = asked.0; turn = asked.1; same = mine.1.asks ∙ sym out.asked }
 
-    -- of another step nobody is out
+    -- no host is out for another step
     pub out_elsewhere : (completion : Completed) → (step ≡ completion.step → ⊥) → IsOut roll state completion → ⊥
     out_elsewhere completion apart out = apart (step_of step completion.step (sym at_step ∙ out.at))

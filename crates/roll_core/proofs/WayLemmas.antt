@@ -1,4 +1,4 @@
--- Whether a step asked for what ended.
+-- Whether a step requested what ended.
 use Rattle.std.proofs.Common.{◌≡◌, ◌&&◌, Bool, Decides, List, [], ◌∷◌, map, string_bytes, ap, ◌∙◌, refl}
 use Rattle.std.specs.Prelude.{String}
 use Rattle.std.specs.Str.{bytes_eq}
@@ -6,7 +6,7 @@ use Rattle.std.specs.declared.alloc.Global.{Global}
 use Rattle.std.proofs.lemmas.Slice.Eq.{bytes_eq-Decides, slice_eq-Decides}
 use Rattle.std.specs.Cmp.Lexicographic.{pointwise}
 
--- words are the same where their bytes are
+-- words are equal if their bytes are
 pub words_decide : (same : String Global → String Global → Bool) → ((a b : String Global) → same a b ≡ bytes_eq (string_bytes a) (string_bytes b))
     → (words given : List (String Global)) → Decides (pointwise same words given) (map string_bytes words ≡ map string_bytes given)
 words_decide same is words given =

@@ -1,4 +1,4 @@
--- A step of a batch is over.
+-- When a step of a batch has ended.
 use Rattle.std.specs.Prelude.{◌≡◌, ℕ, suc, Bool, true, false, Option, Some, None, find}
 use Rattle.event_log.specs.Works.{is_awaited_in}
 use Rattle.event_log.specs.Rolls.{Roll}
@@ -21,11 +21,11 @@ is_over between = false
 is_over (working step) = false
 is_over (ended halt) = true
 
--- the first host of the batch on which the present step is due and that has not reported it
+-- the first host of the batch on which the current step is due and that has not reported it
 abbrev pub first_busy : Roll → State → Option ℕ
 first_busy roll state = find (is_awaited_in roll state) state.batch
 
--- what is told of a batch that has passed a step, and how it goes on
+-- what is reported about a batch that has passed a step, and its next phase
 abbrev pub IsNext : ℕ → Phase → Next → Type 0
 IsNext step phase Step = phase ≡ working (suc step)
 IsNext step phase BatchEnd = phase ≡ ended None

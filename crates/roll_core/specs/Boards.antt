@@ -1,15 +1,15 @@
--- What clauses see of a board: its kernel, its context, and how its reports are counted.
+-- What contracts see of a board: its kernel, its context, and how its reports are counted.
 use Rattle.std.specs.Prelude.{ℕ, Bool, true, false, List, count_by}
 use Rattle.event_log.specs.Events.{Event, set_aside, opened, claimed, reported, passed, closed}
 use Rattle.roll_core.specs.Views.{KernelView}
 use Rattle.roll_core.specs.Views as kernels
 
--- the runner of its programs, and the logs of the rolls before it
+-- the runner of its programs, and the logs of the earlier runs
 pub record Context (R : Type 0) : Type 0 where
   pub runner : R
   pub earlier : List (List Event)
 
--- how many tallies are out, and what those that came back had counted
+-- how many tallies are out, and what the returned ones had counted
 pub record BoardView (R : Type 0) : Type 0 where
   pub kernel : KernelView
   pub context : Context R

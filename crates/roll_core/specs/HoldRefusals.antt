@@ -1,4 +1,4 @@
--- Why hosts are not set aside.
+-- Why hosts are not held.
 use Rattle.std.specs.Prelude.{◌≡◌, ℕ, ◌≢◌, true, Option, Some, None, List}
 use Rattle.fleet_states.specs.declared.status.Status.{Status}
 use Rattle.fleet_states.specs.Groups.{FleetGroup}
@@ -16,7 +16,7 @@ hold_number_of (NotWaiting host) = Some 812
 hold_number_of (HasRoom host) = Some 815
 hold_number_of Memory = None
 
--- what is wrong with hosts that are not to be set aside, at whatever boundary
+-- what is wrong with hosts that may not be held, at any boundary
 abbrev pub IsUnheld : List FleetGroup → List Status → List ℕ → HoldFault → Type 0
 IsUnheld groups statuses hosts NotBoundary = ⊥
 IsUnheld groups statuses hosts (NotWaiting host) = IsFirstUnready statuses hosts host.index
@@ -24,7 +24,7 @@ IsUnheld groups statuses hosts (HasRoom host) =
     (are_ready statuses hosts ≡ true) × IsFirstWithRoom groups statuses hosts host.index
 IsUnheld groups statuses hosts Memory = ⊥
 
--- what a refusal to set hosts aside says; memory alone refuses hosts that may be
+-- what a refusal to hold hosts means; hosts that may be held are refused only if an allocation fails
 abbrev pub IsHoldRefusalOf : Roll → State → List ℕ → HoldFault → Type 0
 IsHoldRefusalOf roll state hosts NotBoundary = state.phase ≢ between
 IsHoldRefusalOf roll state hosts (NotWaiting host) =

@@ -1,4 +1,4 @@
--- What is out, and stays so until it is reported.
+-- A claim stays out until it is reported.
 use Rattle.std.specs.Prelude.{◌≢◌, ℕ, Some}
 use Rattle.host_track.specs.Endings.{Ending}
 use Rattle.event_log.specs.Rolls.{Roll}
@@ -11,7 +11,7 @@ use Rattle.roll_core.specs.Ways.{Completed}
 use Rattle.roll_core.specs.Claims.{IsClaim, IsOut, completion_of}
 use Rattle.roll_core.specs.Views.{KernelView, roll_of, state_of}
 
--- a claim is out, however its program ends; what is settled is
+-- a claim is out, however its program ends; a settled completion is out
 abbrev pub IsOutAs : KernelView → Handed → Type 0
 IsOutAs kernel (Run claim) =
     (ending : Ending) → IsOut (roll_of kernel) (state_of kernel) (completion_of claim ending)
@@ -21,7 +21,7 @@ abbrev pub WhatWasHandedOutIsOut : Type 0
 WhatWasHandedOutIsOut =
     (old new : KernelView) (out : Handed) → IsClaim old new (Some out) → IsOutAs new out
 
--- who is out stays so while others are claimed
+-- a host that is out stays out while others are claimed
 abbrev pub ClaimsLeaveOut : Type 0
 ClaimsLeaveOut =
     (roll : Roll) (state : State) (completion : Completed) (host step : ℕ) → IsOut roll state completion → IsOut roll (next roll state (claimed host step)) completion

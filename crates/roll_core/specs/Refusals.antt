@@ -16,7 +16,7 @@ number_of (NotWaiting host) = Some 812
 number_of (Full group) = Some 813
 number_of Memory = None
 
--- what is wrong with hosts that do not make a batch, at whatever boundary
+-- what is wrong with hosts that don't form a batch, at any boundary
 abbrev pub IsUnfit : List FleetGroup → List Status → List ℕ → OpenFault → Type 0
 IsUnfit groups statuses hosts NotBoundary = ⊥
 IsUnfit groups statuses hosts (NotWaiting host) = IsFirstUnready statuses hosts host.index
@@ -24,7 +24,7 @@ IsUnfit groups statuses hosts (Full group) =
     (are_ready statuses hosts ≡ true) × IsShort groups statuses hosts group.index
 IsUnfit groups statuses hosts Memory = ⊥
 
--- what a refusal of a batch says; memory alone refuses one that may be opened
+-- what a refusal of a batch means; a batch that may be opened is refused only if an allocation fails
 abbrev pub IsRefusalOf : Roll → State → List ℕ → OpenFault → Type 0
 IsRefusalOf roll state hosts NotBoundary = state.phase ≢ between
 IsRefusalOf roll state hosts (NotWaiting host) =

@@ -1,13 +1,13 @@
--- The leave to run a program.
+-- The permit to run a program.
 use Rattle.std.specs.Prelude.{◌≡◌, ℕ}
 use Rattle.event_log.specs.Told.{Work}
 
--- to run the program of this host and step, once
+-- a permit to run the program of this host and step once
 pub record Leave : Type 0 where
   pub host : ℕ
   pub step : ℕ
 
--- the leave is for the host and step of this work
+-- the permit is for the host and step of this work
 pub record IsGoOf (go : Leave) (given : Work) : Type 0 where
   pub of_host : go.host ≡ given.host
   pub of_step : go.step ≡ given.step

@@ -1,4 +1,4 @@
--- What a watcher is told of a roll: a function of its log, in the log's order.
+-- What an observer of a run is notified of: a function of its log, in the log's order.
 use Rattle.std.specs.Prelude.{◌≡◌, ℕ, Option, Some, None, option_map, List, [], ◌∷◌, ◌++◌}
 use Rattle.std.specs.Borrow.{Bor}
 use Rattle.domains.specs.FleetViews.{FleetView}
@@ -24,9 +24,9 @@ use Rattle.roll_core.specs.declared.claim.Handed.TheVariants as handed
 use Rattle.roll_core.specs.declared.notification.Notification.{Notification}
 use Rattle.roll_core.specs.declared.notification.Notification.TheVariants.{Aside, Opening, Begin, Row, Closing}
 
--- hosts are set aside; a batch is open, with the statuses as they are now; a program is to begin; a host has a row more: of which step, how
--- that ended, the name without a value that it wanted, and how it was judged; a batch is to be closed, with the statuses as its steps
--- left them and the step at which it halted, if it did
+-- hosts are held; a batch is open, with the current statuses; a program is about to start; a host has one more row: its step, how that
+-- ended, the undefined name, and how it was judged; a batch is to be closed, with the statuses as its steps left them and the step at which
+-- it halted, if it did
 pub data Telling : Type 0 where
   aside : List ℕ → Telling
   opening : List ℕ → List Status → Telling
@@ -42,13 +42,13 @@ telling_of (Row host step outcome unknown judged) =
     row host.index step (ending_of outcome.now) (option_map (λ (name : Bor (List ℕ)). name.now) unknown) judged
 telling_of (Closing batch statuses halt) = closing (host_numbers batch.now) statuses.now halt
 
--- the step at which a batch halted that has ended so
+-- the step at which a batch halted that has ended this way
 abbrev pub halt_in : Phase → Option ℕ
 halt_in between = None
 halt_in (working step) = None
 halt_in (ended halt) = halt
 
--- a program is to begin where one is asked for
+-- a program is about to start if the request is a job
 abbrev pub begun : ℕ → ℕ → Request → List Telling
 begun host step (job words) = begin (record { host = host; step = step; words = words }) ∷ []
 begun host step (settled ending) = []
@@ -57,7 +57,7 @@ abbrev pub begun_at : Roll → State → ℕ → ℕ → Option Step → List Te
 begun_at roll state host step None = []
 begun_at roll state host step (Some task) = begun host step (asked_of roll state host task)
 
--- the name without a value: the step ended for want of it, or a condition wanted it of a program that ended
+-- the undefined name: one that ended the step, or one that a condition read after the program
 abbrev pub wanted : Ending → Option (List ℕ) → Option (List ℕ)
 wanted (ran rc stdout stderr) name = name
 wanted not_started name = name
@@ -70,12 +70,12 @@ told_row known None host step ending = []
 told_row known (Some task) host step ending =
     row host step ending (wanted ending (undefined_in known task ending)) (finding_of known task ending).judged ∷ []
 
--- and so where it was handed out
+-- likewise for what was issued
 abbrev pub begun_by : Handed → List Telling
 begun_by (handed.Run claim) = begin claim ∷ []
 begun_by (handed.Settled completion) = []
 
--- what is told of an event
+-- what is notified of an event
 abbrev pub told_at : Roll → State → Event → List Telling
 told_at roll state (set_aside hosts) = aside hosts ∷ []
 told_at roll state (opened batch) = opening batch (next roll state (opened batch)).statuses ∷ []
@@ -85,21 +85,21 @@ told_at roll state (reported host step ending) =
 told_at roll state (passed step) = []
 told_at roll state closed = closing state.batch state.statuses (halt_in state.phase) ∷ []
 
--- what is told of a log that goes on from this state
+-- what is notified of a log that continues from this state
 abbrev pub tellings : Roll → State → List Event → List Telling
 tellings roll state [] = []
 tellings roll state (event ∷ log) = told_at roll state event ++ tellings roll (next roll state event) log
 
--- from one moment to another a watcher heard these, one after the other, and nothing else
+-- between two states, an observer received exactly these, in sequence
 abbrev pub HasHeard : {W : Type 0} → (W → W → Telling → Type 0) → W → W → List Telling → Type 0
 HasHeard hears before after [] = after ≡ before
 HasHeard {W} hears before after (first ∷ later) = (mid : W) × (hears before mid first × HasHeard hears mid after later)
 
--- of the fleet and the play of a kernel
+-- for the fleet and the play of a kernel
 abbrev pub Hears : {W : Type 0} → (W → W → FleetView → Play → Telling → Type 0) → KernelView → W → W → Telling → Type 0
 Hears hears kernel before after = hears before after kernel.fleet kernel.play
 
--- from some moment on the watcher has heard what is told of the log, and nothing else since
+-- from some state on, the observer has received exactly what is notified of the log
 pub record IsTold {W : Type 0} (hears : W → W → FleetView → Play → Telling → Type 0) (kernel : KernelView) (watch : W) : Type 0 where
   pub began : W
   pub heard : HasHeard (Hears hears kernel) began watch (tellings (roll_of kernel) (start_state (roll_of kernel)) kernel.log)

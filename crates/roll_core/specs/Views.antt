@@ -1,4 +1,4 @@
--- What clauses see of a kernel: a log, with all that its roll was given at the start.
+-- What contracts see of a kernel: a log, and the inputs of its run.
 use Rattle.std.specs.Prelude.{◌≡◌, ℕ, List, [], ◌∷◌, ◌++◌, map}
 use Rattle.domains.specs.FleetViews.{FleetView}
 use Rattle.fleet_states.specs.declared.status.Status.{Status}
@@ -17,7 +17,7 @@ use Rattle.event_log.specs.Works.{known_at}
 use Rattle.roll_core.specs.declared.event.Event.{Event as Entry}
 use Rattle.roll_core.specs.declared.event.Event.TheVariants.{Hold, Open, Claim, Report, Barrier, Close}
 
--- the fleet and the play; how many claims may be out at once; the hosts' statuses and variables at the start; the log
+-- the fleet and the play; how many claims can be out at once; the hosts' statuses and variables at the start; the log
 pub record KernelView : Type 0 where
   pub fleet : FleetView
   pub play : Play
@@ -26,7 +26,7 @@ pub record KernelView : Type 0 where
   pub vars : List Vars
   pub log : List Event
 
--- the event that stands in the log
+-- the event of a log entry
 abbrev pub event_of : Entry → Event
 event_of (Hold hosts) = set_aside hosts
 event_of (Open batch) = opened batch
@@ -42,12 +42,12 @@ abbrev pub view_of : RosterView → Play → ℕ → List Status → List Vars �
 view_of roster play forks start vars log =
     record { fleet = roster.fleet; play = play; forks = forks; start = start; vars = vars; log = events_of log }
 
--- what the roll of the kernel was given
+-- the inputs of the kernel's run
 abbrev pub roll_of : KernelView → Roll
 roll_of kernel =
     record { groups = groups_of kernel.fleet; play = kernel.play; forks = kernel.forks; start = kernel.start; known = known_at kernel.vars }
 
--- the state after all of the log
+-- the state after the entire log
 abbrev pub state_of : KernelView → State
 state_of kernel = end_state (roll_of kernel) kernel.log
 
@@ -55,11 +55,11 @@ state_of kernel = end_state (roll_of kernel) kernel.log
 abbrev pub with_event : KernelView → Event → KernelView
 with_event kernel event = record kernel { log = kernel.log ++ event ∷ [] }
 
--- after each of its first events no group is over its limit
+-- no group exceeds its limit in the state after any prefix
 abbrev pub FrontsAreSafe : Roll → List Event → Type 0
 FrontsAreSafe roll log = (n : ℕ) → IsSafe roll.groups (front roll log n).statuses
 
--- after each of its first events nobody runs where no batch is open
+-- no host is running in the state after any prefix if no batch is open there
 abbrev pub RestsAtBoundaries : Roll → List Event → Type 0
 RestsAtBoundaries roll log =
     (n : ℕ) → (front roll log n).phase ≡ between → NobodyRuns (front roll log n).statuses

@@ -1,4 +1,4 @@
--- What a step that ended had asked for, and how it ended.
+-- The request of a step that ended, and how it ended.
 use Rattle.std.specs.Prelude.{◌≡◌, ℕ, Bool, true, map, string_bytes}
 use Rattle.play_model.specs.declared.registered.Registered.{Registered}
 use Rattle.play_model.specs.Results.{row_of}
@@ -17,7 +17,7 @@ abbrev pub request_of : StepEnd → Request
 request_of (Program words outcome) = job (map string_bytes words.items)
 request_of (Settled outcome) = settled (ending_of outcome)
 
--- a step that is over on a host: what it had asked for, and how it ended
+-- a step that has ended on a host: its request, and how it ended
 pub record Completed : Type 0 where
   pub host : ℕ
   pub step : ℕ
@@ -28,12 +28,12 @@ abbrev pub completed : ℕ → ℕ → StepEnd → Completed
 completed host step way =
     record { host = host; step = step; request = request_of way; ending = ending_of (outcome_in way) }
 
--- a program ends as programs do
+-- a program ends as programs can
 abbrev pub is_end : StepEnd → Bool
 is_end (Program words outcome) = is_of_program (ending_of outcome)
 is_end (Settled outcome) = true
 
--- it ended as such a step may, and this is the row that it leaves
+-- it ended as such a step can, and this is the row that it adds
 pub record HasEnded (way : StepEnd) (row : Registered) : Type 0 where
   pub ends : is_end way ≡ true
   pub row_is : row_of row ≡ table_row (ending_of (outcome_in way))

@@ -1,4 +1,4 @@
-//! Hosts that are opened or set aside together.
+//! Hosts that are opened or held together.
 ghost use Rattle.std.specs.Prelude.{◌≡◌, IfOk};
 ghost use Rattle.domains.specs.Ids.{host_numbers};
 
@@ -6,7 +6,8 @@ use group_tree::HostId;
 use std::alloc::{AllocError, Global};
 use std::marker::Model;
 
-/// Hosts in the order in which they were handed in; those of a batch are claimed in it. A clause sees their numbers.
+/// Hosts in the order in which they were passed in, which is also the order in which a batch's hosts are claimed. Contracts see their
+/// numbers.
 #[derive(Debug, Drop)]
 pub struct Batch {
     hosts: Vec<HostId>,

@@ -1,4 +1,4 @@
-//! The board of a roll.
+//! The board of a run of one play.
 ghost use Rattle.std.specs.Prelude.{◌≡◌, ◌<◌, ◌≤◌, [], IfErr, IfOk, length};
 ghost use Rattle.fleet_states.specs.Groups.{IsSafe, groups_of};
 ghost use Rattle.fleet_states.specs.Statuses.{NobodyRuns};
@@ -23,16 +23,16 @@ use std::alloc::Global;
 use std::marker::Model;
 use std::sync::ledger::{Blank, Book, Ledger, Share};
 
-/// A roll of one play over a fleet, whose programs one runner runs. Its log is legal, at no moment of it is a group over its limit, and
-/// what it tells of a program is what the runner may tell of it. Up to 128 workers count the reports that they make, each in its tally;
-/// `L` names the ledger that ties these to the board. Its watcher has heard what is told of its log, and nothing else. It holds the history until it is
-/// over: whoever drops it has no history any more.
+/// A run of one play over a fleet, with one runner for its programs. Its log is legal, and no group exceeds its limit at any point of it.
+/// It records about a program only what the runner may report. Up to 128 workers count the reports they make, each in its own tally; `L`
+/// names the ledger that ties the tallies to the board. Its observer has received exactly what the log requires. The board owns the history
+/// until the run ends, so dropping a board drops the history.
 #[derive(Drop)]
 pub struct Board<'f, R: Runner, L: Ledger, W: Observer> {
     kernel: Kernel<'f>,
     runner: &'f R,
     reports: Book<L>,
-    /// What is in no tally.
+    /// The part of the ledger that is in no tally.
     rest: Share<L>,
     tallies: usize,
     joined: usize,
@@ -59,8 +59,9 @@ impl<'f, R: Runner, L: Ledger, W: Observer> Model for Board<'f, R, L, W> {
 }
 
 impl<'f, R: Runner, L: Ledger, W: Observer> Board<'f, R, L, W> {
-    /// A roll at its first boundary: each host begins with its status and its variables. At most `forks` claims are out at once, 1 to 64. `blank`
-    /// is of 129 parts: one for each tally that may be out, and one for the board. Want of memory drops `watch`, and gives the history back.
+    /// Returns a run at its first boundary, where each host has its initial status and variables. At most `forks` claims, 1 to 64, are out
+    /// at once. `blank` has 129 parts: one for each tally that can be out, and one for the board. If an allocation fails, drops `watch` and
+    /// returns the history.
     #[allow(clippy::too_many_arguments)]
     pub fn new(
         alloc: Global,

@@ -6,8 +6,8 @@ use crate::job::Job;
 use down_ledger::Share;
 use std::marker::Model;
 
-/// The leave to work on a host of the open batch, with its job and the host's share. There is one for each time that a kernel hands
-/// a host out, so it can't be copied. Whoever drops it leaves its host down and its batch open. A clause sees the work of its job.
+/// The permit to work on a host of the open batch, with its job and the host's share. A kernel makes one each time it issues a host, so it
+/// can't be copied. If it is dropped, its host stays down and its batch stays open. Contracts see the work of its job.
 #[derive(Debug, Drop)]
 pub struct Claim {
     pub(crate) share: Share,
@@ -26,7 +26,7 @@ impl Model for Claim {
 }
 
 impl Claim {
-    /// What is to be run, and on which host.
+    /// Returns what is to be run, and on which host.
     pub fn job(&self) -> &Job
         ensures { result.now ≡ self.now }
     {
@@ -34,11 +34,12 @@ impl Claim {
     }
 }
 
-/// What a kernel hands out.
+/// What a kernel issues.
 #[derive(Debug, Drop)]
 pub enum Handed {
     /// A program is to run.
     Run(Claim),
-    /// None is: the step is skipped, a name has no value, or a word is too long. The step isn't passed until it is reported.
+    /// No program is to run: the step is skipped, a name has no value, or an argument is too long. The step isn't passed until this is
+    /// reported.
     Settled(Completion),
 }

@@ -1,4 +1,4 @@
-//! What a worker is given.
+//! What a worker receives.
 ghost use Rattle.roll_core.specs.Givings.{HasItsGo, IsGivenAs, IsOfNoProgram};
 
 use crate::claim::{Claim, Handed};
@@ -6,16 +6,17 @@ use crate::done::Done;
 use crate::go::Go;
 use crate::runner::Runner;
 
-/// What a board hands out.
+/// What a board issues.
 #[derive(Drop)]
 pub enum Claimed<'r, R: Runner> {
     /// A program is to run, once.
     Run(Claim, Go),
-    /// None is: the step is skipped, a name has no value, or a word is too long. The step isn't passed until it is reported.
+    /// No program is to run: the step is skipped, a name has no value, or an argument is too long. The step isn't passed until this is
+    /// reported.
     Settled(Done<'r, R>),
 }
 
-/// What is handed out, with the leave to run its program, or with the runner of the board.
+/// Adds the permit to run its program, or the board's runner if there is no program.
 pub(crate) fn given_out<'r, R: Runner>(handed: Handed, runner: &'r R) -> Claimed<'r, R>
     requires { IsOfNoProgram handed }
     ensures same { IsGivenAs runner.now handed result }

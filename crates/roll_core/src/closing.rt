@@ -10,7 +10,7 @@ use down_ledger::Roster;
 use fleet_states::Status;
 use group_tree::HostId;
 
-/// What becomes of a host when its batch is closed, which was halted at a step or was not.
+/// Returns a host's status after its batch is closed, with the step at which the batch was halted, if it was.
 fn at_rest(halt: Option<usize>, status: Status) -> Status
     ensures { result ≡ states.at_rest halt status }
 {
@@ -21,7 +21,7 @@ fn at_rest(halt: Option<usize>, status: Status) -> Status
     }
 }
 
-/// The host stays down with this status, and its share is gone.
+/// Leaves the host down with this status; its share is gone.
 fn keep_down(roster: &mut Roster<'_>, host: HostId, status: Status)
     requires rests { seated_at roster.old.seated host.index ≡ true }
     requires was { is_down (status_at roster.old.statuses host.index) ≡ true }
@@ -33,7 +33,8 @@ fn keep_down(roster: &mut Roster<'_>, host: HostId, status: Status)
     roster.keep_down(host);
 }
 
-/// Whoever is still running is updated, and up, or halted, and stays down. Any other stays down as it is. Its share rests no more.
+/// Ends a host. If it is still running, it is updated and up, or halted and down; otherwise it stays down with its status. Its share is
+/// gone.
 fn end_host(roster: &mut Roster<'_>, host: HostId, halt: Option<usize>)
     requires rests { seated_at roster.old.seated host.index ≡ true }
     requires was { is_down (status_at roster.old.statuses host.index) ≡ true }
@@ -47,7 +48,7 @@ fn end_host(roster: &mut Roster<'_>, host: HostId, halt: Option<usize>)
     }
 }
 
-/// Ends hosts that are down and whose shares rest.
+/// Ends hosts that are down and whose shares are in the roster.
 pub(crate) fn end_hosts(roster: &mut Roster<'_>, hosts: &[HostId], halt: Option<usize>)
     requires all { length roster.old.seated ≡ length roster.old.statuses }
     requires distinct { IsTrue (are_distinct (host_numbers hosts.now)) }

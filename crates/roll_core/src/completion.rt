@@ -1,4 +1,4 @@
-//! A step that is over on a host.
+//! A step that has ended on a host.
 mod making;
 
 use crate::step_end::StepEnd;
@@ -6,9 +6,9 @@ use down_ledger::Share;
 use play_model::Registered;
 use std::marker::Model;
 
-/// How a step ended on the host of a claim, to be reported, with the row that this leaves, so that a report takes no memory. It can't
-/// be copied: no step is reported twice. Whoever drops it leaves its host down and its batch open. A clause sees the host's number, the
-/// step, what this had asked for, and how it ended.
+/// How a step ended on the host of a claim, ready to be reported. It contains the row that the report adds, so that reporting does not
+/// allocate. It can't be copied, so no step is reported twice. If it is dropped, its host stays down and its batch stays open. Contracts
+/// see the host's number, the step, its request and how it ended.
 #[derive(Debug, Drop)]
 pub struct Completion {
     pub(crate) share: Share,

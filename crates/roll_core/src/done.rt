@@ -1,4 +1,4 @@
-//! A step that is over on a host.
+//! A step that has ended on a host, as its runner reports it.
 ghost use Rattle.std.specs.Prelude.{◌≡◌, IfErr, IfOk, true};
 ghost use Rattle.host_track.specs.Endings.{ending_of};
 ghost use Rattle.event_log.specs.Rolls.{is_of_program};
@@ -12,8 +12,8 @@ use host_track::Outcome;
 use std::alloc::{AllocError, Global};
 use std::marker::Model;
 
-/// How a step ended on the host of a claim, to be reported, and the runner that says so, which may say it. It can't be copied: no step is
-/// reported twice. Whoever drops it leaves its host down and its batch open.
+/// How a step ended on the host of a claim, ready to be reported, with a runner that may report it. It can't be copied, so no step is
+/// reported twice. If it is dropped, its host stays down and its batch stays open.
 #[derive(Drop)]
 pub struct Done<'r, R: Runner> {
     pub(crate) completion: Completion,
@@ -35,7 +35,8 @@ impl<'r, R: Runner> Model for Done<'r, R> {
 }
 
 impl<'r, R: Runner> Done<'r, R> {
-    /// The program of the claim ended so, as this runner may tell. Want of memory hands the claim back, and drops the outcome.
+    /// Completes the claim: its program ended with this outcome, which this runner may report. If an allocation fails, returns the claim
+    /// and drops the outcome.
     pub fn new(
         alloc: Global,
         runner: &'r R,
@@ -51,7 +52,7 @@ impl<'r, R: Runner> Done<'r, R> {
         Ok(Done { completion, runner })
     }
 
-    /// What ended may have ended so, by this runner.
+    /// Pairs a completion with a runner that may report it.
     pub(crate) fn of(completion: Completion, runner: &'r R) -> Done<'r, R>
         requires { MayComplete (R.may runner.now) completion }
         ensures { result ≡ record { completion = completion; runner = runner.now } }
@@ -59,7 +60,7 @@ impl<'r, R: Runner> Done<'r, R> {
         Done { completion, runner }
     }
 
-    /// The host of the claim. In every `Done` the program of the claim ended as its runner may tell.
+    /// Returns the host of the claim. In every `Done`, the claim's program ended as its runner may report.
     pub fn host(&self) -> HostId
         ensures host { result.index ≡ self.now.completion.host }
         ensures told { MayComplete (R.may self.now.runner) self.now.completion }

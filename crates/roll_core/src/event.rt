@@ -1,18 +1,18 @@
-//! What a log is made of.
+//! The events of a log.
 use crate::batch::Batch;
 use group_tree::HostId;
 use host_track::Outcome;
 
-/// One moment of a roll. Steps are counted from 0.
+/// One event of a run. Steps are counted from 0.
 #[derive(Debug, Drop)]
 pub enum Event {
-    /// These waiting hosts are set aside: each is a member of a group without room.
+    /// These waiting hosts are held: each is a member of a group without room.
     Hold(Batch),
-    /// A batch begins: its hosts are down from now on.
+    /// A batch starts: its hosts are down from now on.
     Open(Batch),
     /// A worker takes the host for the step.
     Claim(HostId, usize),
-    /// The step ended so on the host.
+    /// The step ended on the host with this outcome.
     Report(HostId, usize, Outcome),
     /// Each host of the batch on which the step is due has reported it.
     Barrier(usize),

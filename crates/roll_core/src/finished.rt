@@ -1,9 +1,9 @@
-//! What a roll leaves.
+//! The result of a run.
 use fleet_states::Status;
 use host_track::Counts;
 use host_vars::Vars;
 
-/// For each host, by its number, its status, its variables with the results that its steps registered, and how its rows were judged.
+/// For each host, by number: its status, its variables with the results its steps registered, and how its rows were judged.
 #[derive(Drop)]
 pub struct Finished {
     pub statuses: Vec<Status>,

@@ -1,12 +1,12 @@
-//! The leave to run a program.
+//! The permit to run a program.
 ghost use Rattle.roll_core.specs.RunPermits.{IsGoOf};
 
 use crate::job::Job;
 use group_tree::HostId;
 use std::marker::Model;
 
-/// The leave to run the program of one host and step, once: a board makes it beside the claim, `run` takes it, and it can't be copied. A
-/// clause sees the host's number and the step.
+/// The permit to run the program of one host and step once. A board makes it along with the claim, `run` consumes it, and it can't be
+/// copied. Contracts see the host's number and the step.
 #[derive(Debug, Drop)]
 pub struct Go {
     host: HostId,
@@ -22,7 +22,7 @@ impl Model for Go {
 }
 
 impl Go {
-    /// For the program of this job.
+    /// Returns a permit for the program of this job.
     pub(crate) fn of(job: &Job) -> Go
         ensures { IsGoOf result job.now }
     {

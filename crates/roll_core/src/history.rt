@@ -1,4 +1,4 @@
-//! The rolls of a program.
+//! All runs of a process.
 ghost use Rattle.std.specs.Prelude.{◌≡◌, ◌<◌, ◌++◌, ◌∷◌, [], IfErr, IfOk, length, vec_capacity, vec_len};
 ghost use Rattle.roll_core.specs.Histories.{log_at, logs_of};
 ghost use Rattle.roll_core.specs.Views.{events_of};
@@ -7,8 +7,8 @@ use crate::event::Event;
 use crate::kernel::keep;
 use std::marker::Model;
 
-/// The logs of all rolls, in the order in which they ended. There is one in a program: its `main` makes it, and it can't be copied. Each board takes
-/// it and gives it back with its own log behind the others, so that two boards never stand side by side, and no roll is left out. A clause sees the logs.
+/// The logs of all runs, in the order in which they ended. A process has one: its `main` makes it, and it can't be copied. Each board takes
+/// it, and returns it with its own log appended. So two boards never exist at once, and no run is missing. Contracts see the logs.
 #[derive(Drop)]
 pub struct History {
     logs: Vec<Vec<Event>>,
@@ -25,7 +25,7 @@ impl Model for History {
 }
 
 impl History {
-    /// Of no roll. Only `main` and tests have what this takes.
+    /// Returns an empty history. Only `main` and tests have the argument it takes.
     pub fn new(rt: &HostRuntime) -> History
         ensures { result ≡ [] }
     {
@@ -34,14 +34,14 @@ impl History {
         }
     }
 
-    /// How many rolls it has.
+    /// Returns how many runs it contains.
     pub fn rolls(&self) -> usize
         ensures { result ≡ length self.now }
     {
         self.logs.len()
     }
 
-    /// The log of the roll at this place, from 0; of one that it hasn't, an empty one.
+    /// Returns the log of the run at this index, counted from 0, or an empty log if there is no such run.
     pub fn log(&self, place: usize) -> &[Event]
         ensures { events_of result.now ≡ log_at self.now place }
     {
@@ -52,7 +52,7 @@ impl History {
     }
 }
 
-/// The logs of the rolls before one, with a place for its own.
+/// The logs of the earlier runs, with space for one more.
 #[derive(Drop)]
 pub(crate) struct Place {
     logs: Vec<Vec<Event>>,
@@ -60,7 +60,7 @@ pub(crate) struct Place {
 }
 
 impl Place {
-    /// Want of memory hands the history back.
+    /// Reserves space for one more log. If an allocation fails, returns the history.
     pub(crate) fn new(history: History) -> Result<Place, History>
         ensures ok { IfOk result (λ place. logs_of place.logs.items ≡ history) }
         ensures err { IfErr result (λ back. back ≡ history) }
@@ -72,7 +72,7 @@ impl Place {
         }
     }
 
-    /// The history with this log behind the others.
+    /// Returns the history with this log appended.
     pub(crate) fn fill(self, log: Vec<Event>) -> History
         ensures { result ≡ logs_of self.logs.items ++ events_of log.items ∷ [] }
     {
@@ -81,7 +81,7 @@ impl Place {
         History { logs }
     }
 
-    /// The history as it was, where there is no roll.
+    /// Returns the history unchanged, for a run that was not started.
     pub(crate) fn give_up(self) -> History
         ensures { result ≡ logs_of self.logs.items }
     {

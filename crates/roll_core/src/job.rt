@@ -4,8 +4,8 @@ ghost use Rattle.std.specs.Prelude.{◌≡◌, map, string_bytes};
 use group_tree::HostId;
 use std::marker::Model;
 
-/// The program of a step on a host, with its arguments. A kernel alone makes one, so that under a claim nobody runs other words than it
-/// was handed out for. A clause sees the host's number, the step and the bytes of each word.
+/// The program of a step on a host, with its arguments. Only a kernel makes one, so a claim runs exactly the command it was issued for.
+/// Contracts see the host's number, the step and the bytes of each argument.
 #[derive(Debug, Drop)]
 pub struct Job {
     pub(crate) host: HostId,
@@ -29,14 +29,14 @@ impl Job {
         self.host
     }
 
-    /// The step's place in its play, from 0.
+    /// Returns the index of the step in its play, from 0.
     pub fn step(&self) -> usize
         ensures { result ≡ self.now.step }
     {
         self.step
     }
 
-    /// The program, and behind it its arguments.
+    /// Returns the program followed by its arguments.
     pub fn words(&self) -> &[String]
         ensures { map string_bytes result.now ≡ self.now.words }
     {

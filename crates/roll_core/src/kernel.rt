@@ -1,4 +1,4 @@
-//! The log of a roll, and the state after it.
+//! The log of a run, and the state after it.
 ghost use Rattle.std.specs.Prelude.{◌≡◌, ◌<◌, ◌≤◌, ◌++◌, ◌∷◌, [], IfOk, length, vec_capacity, vec_len};
 ghost use Rattle.fleet_states.specs.Statuses.{NobodyRuns};
 ghost use Rattle.fleet_states.specs.Groups.{IsSafe, groups_of};
@@ -22,9 +22,9 @@ use play_model::Play;
 use std::alloc::{AllocError, Global};
 use std::marker::Model;
 
-/// A roll of one play over a fleet, from its start on. Its log is legal, and no group is over its limit at any moment of it. The hosts
-/// that are down are those of the state after the log; the share of each host of the open batch rests here, or is in its `Claim` or
-/// `Completion`; whoever drops one of these loses the share.
+/// A run of one play over a fleet, from its start on. Its log is legal, and no group exceeds its limit at any point of it. The hosts that
+/// are down are those of the state after the log. The share of each host of the open batch is stored here, or is in its `Claim` or
+/// `Completion`. Dropping one of these loses the share.
 #[derive(Drop)]
 pub struct Kernel<'f> {
     roster: Roster<'f>,
@@ -33,7 +33,7 @@ pub struct Kernel<'f> {
     forks: usize,
     start: &'f [Status],
     vars: &'f [Vars],
-    /// There is room for a report of each claim that is out, and for the barriers and the closing of an open batch.
+    /// Its capacity suffices for a report of each claim that is out, and for the barriers and the closing of an open batch.
     log: Vec<Event>,
 }
 
@@ -55,7 +55,8 @@ impl<'f> Model for Kernel<'f> {
 }
 
 impl<'f> Kernel<'f> {
-    /// A roll at its first boundary: each host begins with its status and its variables. At most `forks` claims are out at once, 1 to 64.
+    /// Returns a run at its first boundary, where each host has its initial status and variables. At most `forks` claims, 1 to 64, are out
+    /// at once.
     pub fn new(
         alloc: Global,
         fleet: &'f Fleet,
@@ -89,7 +90,7 @@ impl<'f> Kernel<'f> {
     }
 }
 
-/// Puts an item at the end, where there is room.
+/// Appends an item within the capacity.
 pub(crate) fn keep<T: Drop>(items: &mut Vec<T>, item: T)
     requires { vec_len items.old < vec_capacity items.old }
     ensures items { items.new.items ≡ items.old.items ++ item ∷ [] }

@@ -1,4 +1,4 @@
-//! Why a batch is not opened, a host not set aside, a step not over, a report not taken.
+//! Why a batch is not opened, a host not held, a step not passed, or a report not accepted.
 ghost use Rattle.std.specs.Prelude.{◌≡◌};
 ghost use Rattle.roll_core.specs.Refusals.{number_of};
 ghost use Rattle.roll_core.specs.HoldRefusals.{hold_number_of};
@@ -6,22 +6,21 @@ ghost use Rattle.roll_core.specs.HoldRefusals.{hold_number_of};
 use group_tree::{GroupId, HostId};
 use std::alloc::AllocError;
 
-/// Why a batch is not opened: the first rule that it breaks, in this order.
+/// Why a batch is not opened: the first rule it violates, in this order.
 #[derive(Clone, Copy, Debug, PartialEq, Eq)]
 pub enum OpenFault {
     /// A batch is open.
     NotBoundary,
-    /// The first host of the list that is not waiting, or stood in the list before. A number that no host has is not
-    /// waiting.
+    /// The first host of the list that is not waiting, or that the list has named before. A number that no host has is not waiting.
     NotWaiting { host: HostId },
-    /// The list names more of the group's members than it has room for. As the hosts go down one by one, in the order of the
-    /// list, it is the outermost group without room for the first host that finds none.
+    /// The list names more members of the group than it has room for. If the hosts go down one by one in list order, it is the outermost
+    /// group without room for the first host that finds none.
     Full { group: GroupId },
     Memory,
 }
 
 impl OpenFault {
-    /// The number of the rule that is broken; want of memory breaks none.
+    /// Returns the number of the violated rule, or none if an allocation failed.
     pub fn number(&self) -> Option<u16>
         ensures { result ≡ number_of self.now }
     {
@@ -45,21 +44,20 @@ impl From<AllocError> for OpenFault {
     }
 }
 
-/// Why hosts are not set aside: the first rule that is broken, in this order.
+/// Why hosts are not held: the first violated rule, in this order.
 #[derive(Clone, Copy, Debug, PartialEq, Eq)]
 pub enum HoldFault {
     /// A batch is open.
     NotBoundary,
-    /// The first host of the list that is not waiting, or stood in the list before. A number that no host has is not
-    /// waiting.
+    /// The first host of the list that is not waiting, or that the list has named before. A number that no host has is not waiting.
     NotWaiting { host: HostId },
-    /// The first host of the list for which each group that holds it has room.
+    /// The first host of the list for which every group that contains it has room.
     HasRoom { host: HostId },
     Memory,
 }
 
 impl HoldFault {
-    /// The number of the rule that is broken; want of memory breaks none.
+    /// Returns the number of the violated rule, or none if an allocation failed.
     pub fn number(&self) -> Option<u16>
         ensures { result ≡ hold_number_of self.now }
     {
@@ -90,7 +88,7 @@ pub struct Busy {
 }
 
 impl Busy {
-    /// The number of the rule that is broken.
+    /// Returns the number of the violated rule.
     pub fn number(&self) -> u16
         ensures { result ≡ 814 }
     {

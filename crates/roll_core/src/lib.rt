@@ -1,4 +1,4 @@
-//! The board: hands out claims over a legal log, and takes back what its runner tells.
+//! The board: issues claims over a legal log, and accepts what its runner reports.
 #![tactic(auto)]
 
 mod batch;

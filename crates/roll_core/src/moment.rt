@@ -1,11 +1,11 @@
-//! A moment of a roll.
+//! A point in a run.
 ghost use Rattle.std.specs.Prelude.{◌≡◌};
 ghost use Rattle.roll_core.specs.Views.{events_of};
 
 use crate::event::Event;
 use std::marker::Model;
 
-/// A board as it stands: it can't move on as long as somebody has this, which only the board gives. A clause sees its log.
+/// A board as it currently is. The board can't change while this is borrowed, and only the board makes one. Contracts see its log.
 #[derive(Drop)]
 pub struct Moment<'m> {
     log: &'m [Event],

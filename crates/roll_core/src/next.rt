@@ -1,4 +1,4 @@
-//! What comes after a barrier.
+//! What follows a barrier.
 ghost use Rattle.std.specs.Prelude.{ℕ};
 ghost use Rattle.event_log.specs.Works.{phase_of};
 ghost use Rattle.roll_core.specs.Barriers.{IsNext};
@@ -10,13 +10,13 @@ use event_log::Stage;
 pub enum Next {
     /// The next step of the play.
     Step,
-    /// The batch is over, and is to be closed: it passed the last step, or each of its hosts has failed.
+    /// The batch has ended and is to be closed: it passed the last step, or each of its hosts has failed.
     BatchEnd,
     /// More hosts of the batch have failed than the play allows: it is to be closed, and its live hosts are halted.
     Halt,
 }
 
-/// What is told of a batch that has passed a step.
+/// Returns what follows for a batch that has passed a step.
 pub(crate) fn next_of(stage: Stage) -> Next
     ensures { (step : ℕ) → GoesOn step (phase_of stage) → IsNext step (phase_of stage) result }
 {

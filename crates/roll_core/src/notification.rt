@@ -1,4 +1,4 @@
-//! What happens in a roll.
+//! What happens in a run.
 ghost use Rattle.std.specs.Prelude.{◌≡◌};
 ghost use Rattle.event_log.specs.States.{State};
 ghost use Rattle.event_log.specs.Works.{phase_of};
@@ -10,24 +10,24 @@ use fleet_states::Status;
 use group_tree::HostId;
 use host_track::{Judged, Outcome};
 
-/// What has happened, as whoever watches a roll is told of it. Steps are counted from 0.
+/// What an observer of a run is notified of. Steps are counted from 0.
 #[derive(Clone, Copy)]
 pub enum Notification<'a> {
-    /// These hosts were set aside.
+    /// These hosts were held.
     Aside {
         hosts: &'a [HostId],
     },
-    /// A batch is open; the statuses are those of now.
+    /// A batch is open; the statuses are the current ones.
     Opening {
         batch: &'a [HostId],
         statuses: &'a [Status],
     },
-    /// A program is to begin.
+    /// A program is about to start.
     Begin {
         job: &'a Job,
     },
-    /// A step ended so on a host, and was judged so. `undefined` is the name without a value for which it has failed, if it was for one: of
-    /// `when` or of a word, and then no program was run; or of a condition that was asked behind the program.
+    /// A step ended on a host with this outcome, and was judged. `undefined` is the name without a value that made it fail, if one did. If
+    /// `when` or the command reads the name, no program was run. Otherwise a condition evaluated after the program reads it.
     Row {
         host: HostId,
         step: usize,
@@ -35,7 +35,7 @@ pub enum Notification<'a> {
         undefined: Option<&'a str>,
         judged: Judged,
     },
-    /// A batch is over, and is to be closed: the statuses are as its steps left them. `halt` is the step at which it halted, if it did.
+    /// A batch has ended and is to be closed: the statuses are as its steps left them. `halt` is the step at which it halted, if it did.
     Closing {
         batch: &'a [HostId],
         statuses: &'a [Status],
@@ -43,7 +43,7 @@ pub enum Notification<'a> {
     },
 }
 
-/// The step at which a batch halted, if it did.
+/// Returns the step at which a batch halted, if it did.
 pub fn halt_of(stage: Stage) -> Option<usize>
     ensures { result ≡ spec.halt_in (phase_of stage) }
 {

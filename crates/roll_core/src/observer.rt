@@ -1,4 +1,4 @@
-//! Whoever watches a roll.
+//! Observers of a run.
 ghost use Rattle.domains.specs.FleetViews.{FleetView};
 ghost use Rattle.play_model.specs.declared.play.Play as plays;
 ghost use Rattle.roll_core.specs.Tellings.{Telling, telling_of};
@@ -7,35 +7,35 @@ use crate::notification::Notification;
 use domains::Fleet;
 use play_model::Play;
 
-/// Is told of rolls while they go on, of each event as it is entered in the log, and of what else there is to tell of them. What it makes of that
-/// changes nothing of them.
+/// Receives each event of a run as it is recorded in the log, and other messages about runs. What it does with them does not affect the
+/// run.
 pub trait Observer: Drop {
-    /// From the first moment to the second it heard this of a play over a fleet.
+    /// Between the first state and the second, it received this about a play over a fleet.
     ghost hears: { Self → Self → FleetView → plays.Play → Telling → Type 0 };
 
     fn on_event(&mut self, fleet: &Fleet, play: &Play, news: &Notification<'_>)
         ensures { hears self.old self.new fleet.now play.now (telling_of news.now) };
 
-    /// Of a file's plays the next is to begin, behind so many of them.
+    /// The next play of a file starts: `before` of its `plays` plays precede it.
     fn plays_begin(&mut self, before: usize, plays: usize);
 
-    /// The next play begins.
+    /// The next play starts.
     fn play_begins(&mut self);
 
-    /// The plays are over. What is printed of them comes next.
+    /// The plays have ended. Their results are printed next.
     fn plays_end(&mut self);
 
-    /// Whether anybody is told anything.
+    /// Reports whether this observer shows anything.
     fn is_told(&self) -> bool;
 
-    /// These lines are to be told now.
+    /// Shows these lines now.
     fn note(&mut self, lines: &[u8]);
 
-    /// These lines are to be told behind everything else.
+    /// Shows these lines after everything else.
     fn keep(&mut self, lines: Vec<u8>);
 }
 
-/// Nobody watches.
+/// Ignores everything.
 #[derive(Clone, Copy, Debug, Drop)]
 pub struct NoObserver;
 

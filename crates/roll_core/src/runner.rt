@@ -1,4 +1,4 @@
-//! Whoever runs programs.
+//! Runners of programs.
 ghost use Rattle.std.specs.Prelude.{◌≡◌, Decides, true, IfOk};
 ghost use Rattle.host_track.specs.Endings.{Ending, ending_of};
 ghost use Rattle.event_log.specs.Rolls.{is_of_program};
@@ -13,17 +13,17 @@ use std::process::{Processes, SystemProcess};
 use std::sync::Wait;
 use std::thread::Threads;
 
-/// Runs the programs of a roll, from many threads at once. How a program may end, by this runner, is its relation `may`; runners that are
-/// `alike` have the same.
+/// Runs the programs of a run, on many threads at once. Its relation `may` defines how a program can end; runners that are `alike` have the
+/// same relation.
 pub trait Runner: Sync {
-    /// This work may end so.
+    /// This work can end this way.
     ghost may: { Self → Work → Ending → Type 0 };
 
-    /// The two may tell the same of each work.
+    /// The two can report the same for every work.
     ghost alike: { Self → Self → Type 0 };
 
-    /// Runs the program of the job and waits for its end, which is `Ran`, `NotStarted` or `Lost`. A board makes one `go` for a host
-    /// and step, and it is used up here.
+    /// Runs the program of the job and waits for its end, which is `Ran`, `NotStarted` or `Lost`. A board makes one `go` for a host and
+    /// step, and this call consumes it.
     fn run<H: Threads + Wait + Processes<Started = SystemProcess> + Sync>(
         &self,
         rt: &H,
@@ -35,7 +35,7 @@ pub trait Runner: Sync {
         ensures program { IfOk result (λ outcome. is_of_program (ending_of outcome) ≡ true) }
         ensures allowed { IfOk result (λ outcome. may self.now job.now (ending_of outcome)) };
 
-    /// Whether the two are alike. It takes no memory.
+    /// Reports whether the two are alike. Does not allocate.
     fn same(&self, other: &Self) -> bool
         ensures { Decides result (alike self.now other.now) };
 

@@ -1,4 +1,4 @@
-//! How a step that was claimed ended.
+//! How a claimed step ended.
 ghost use Rattle.std.specs.Prelude.{◌≡◌, Decides, map, string_bytes};
 ghost use Rattle.host_track.specs.Endings.{ending_of};
 ghost use Rattle.host_track.specs.Asking.{asked_as};
@@ -13,7 +13,7 @@ pub(crate) enum StepEnd {
         words: Vec<String>,
         outcome: Outcome,
     },
-    /// There was none to run.
+    /// No program was to run.
     Settled(Outcome),
 }
 
@@ -28,7 +28,7 @@ impl StepEnd {
     }
 }
 
-/// Whether the step asked for what ended in this way.
+/// Reports whether the step's request is the one that ended this way.
 pub(crate) fn is_asked(asked: &StepRequest, way: &StepEnd) -> bool
     ensures { Decides result (asked_as asked.now ≡ request_of way.now) }
 {

@@ -3,8 +3,7 @@ ghost use Rattle.std.specs.Prelude.{◌≡◌, ◌<◌, ◌^◌, suc};
 
 use std::sync::ledger::{Book, Ledger, Share};
 
-/// A worker's share of the number of reports. It can't be dropped: it goes back to the board that it came from, so that no report
-/// is forgotten.
+/// A worker's share of the number of reports. It can't be dropped: it goes back to its board, so no report is missed.
 pub struct Tally<L: Ledger> {
     pub(crate) share: Share<L>,
     count: usize,
@@ -13,7 +12,7 @@ pub struct Tally<L: Ledger> {
 }
 
 impl<L: Ledger> Tally<L> {
-    /// Of no report.
+    /// Returns a tally that has counted no report.
     pub(crate) fn new(share: Share<L>) -> Tally<L>
         requires one { share.parts ≡ 1 }
         requires none { share.amount ≡ 0 }
@@ -22,7 +21,7 @@ impl<L: Ledger> Tally<L> {
         Tally { share, count: 0 }
     }
 
-    /// How many reports it stands for.
+    /// Returns how many reports it has counted.
     pub fn count(&self) -> usize
         ensures { result ≡ self.now.count }
     {
@@ -38,7 +37,7 @@ impl<L: Ledger> Tally<L> {
     }
 }
 
-/// Counts one report more. `rest` is what of the ledger is in no tally.
+/// Counts one more report. `rest` is the part of the ledger that is in no tally.
 pub(crate) fn count_one<L: Ledger>(reports: &mut Book<L>, rest: &mut Share<L>, tally: &mut Tally<L>)
     requires few { reports.old.total < 2 ^ 63 }
     requires some { 0 < rest.old.parts }

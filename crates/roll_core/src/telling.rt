@@ -1,4 +1,4 @@
-//! A watcher is told of what was entered.
+//! Notifies an observer of what was recorded.
 ghost use Rattle.std.specs.Prelude.{◌≡◌, ℕ, List, [], ◌∷◌, ◌++◌, option_map};
 ghost use Rattle.host_track.specs.Endings.{Ending, ending_of};
 ghost use Rattle.event_log.specs.Events as events;
@@ -20,7 +20,7 @@ pub(crate) fn tell<W: Observer>(watch: &mut W, kernel: &Kernel<'_>, news: &Notif
     watch.on_event(kernel.fleet(), kernel.play(), news);
 }
 
-/// A program is to begin, if what was handed out has one.
+/// Notifies the observer that a program is about to start, if what was issued has one.
 pub(crate) fn report_begin<W: Observer>(watch: &mut W, kernel: &Kernel<'_>, handed: &Handed)
     ensures { HasHeard (Hears W.hears kernel.now) watch.old watch.new (begun_by handed.now) }
 {
@@ -30,7 +30,7 @@ pub(crate) fn report_begin<W: Observer>(watch: &mut W, kernel: &Kernel<'_>, hand
     }
 }
 
-/// The name without a value that the step wanted, if it wanted one.
+/// Returns the name without a value that made the step fail, if one did.
 fn wanted<'a>(outcome: &'a Outcome, entered: &Entered<'a>) -> Option<&'a str>
     ensures { option_map (λ name. name.now) result ≡ spec.wanted (ending_of outcome.now) (undefined_name entered.now) }
 {
@@ -42,7 +42,7 @@ fn wanted<'a>(outcome: &'a Outcome, entered: &Entered<'a>) -> Option<&'a str>
     }
 }
 
-/// The last event of the log is a report, of which this was found.
+/// Notifies the observer of the report that is the last event of the log, with what its row was found to be.
 pub(crate) fn report_row<W: Observer>(watch: &mut W, kernel: &Kernel<'_>, entered: &Entered<'_>)
     ensures { (log : List events.Event) (host step : ℕ) (ending : Ending) → kernel.now.log ≡ log ++ events.reported host step ending ∷ []
         → HasHeard (Hears W.hears kernel.now) watch.old watch.new (row host step ending (spec.wanted ending (undefined_name entered.now)) entered.now.judged ∷ []) }

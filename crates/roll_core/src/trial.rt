@@ -1,4 +1,4 @@
-//! Whether a batch may be opened, and whether hosts may be set aside.
+//! Checks whether a batch may be opened, and whether hosts may be held.
 ghost use Rattle.std.specs.Prelude.{◌≡◌, IsTrue, MatchResult, length};
 ghost use Rattle.std.specs.List.{list_all};
 ghost use Rattle.domains.specs.Ids.{host_numbers};
@@ -12,7 +12,7 @@ use crate::kernel_fault::{HoldFault, OpenFault};
 use down_ledger::Roster;
 use group_tree::HostId;
 
-/// Whether the hosts wait, each once, and there is room for them.
+/// Checks that the hosts wait, are distinct, and have room.
 pub(crate) fn try_batch(roster: &mut Roster<'_>, hosts: &[HostId]) -> Result<(), OpenFault>
     requires all { length roster.old.seated ≡ length roster.old.statuses }
     requires rest { NobodyRests roster.old }
@@ -32,7 +32,7 @@ pub(crate) fn try_batch(roster: &mut Roster<'_>, hosts: &[HostId]) -> Result<(),
     }
 }
 
-/// Whether the hosts wait, each once, and there is room for none of them.
+/// Checks that the hosts wait, are distinct, and that none of them has room.
 pub(crate) fn try_hold(roster: &mut Roster<'_>, hosts: &[HostId]) -> Result<(), HoldFault>
     ensures same { roster.new ≡ roster.old }
     ensures tells { MatchResult result

@@ -1,4 +1,4 @@
--- What is behind a boundary: the batches that were opened, and the rows of the hosts.
+-- What precedes a boundary: the batches that were opened, and the rows of the hosts.
 use Rattle.std.proofs.Common.{◌≡◌, ℕ, ◌+◌, ◌<◌, Bool, true, false, ◌&&◌, cond, List, [], ◌∷◌, ◌++◌, length, refl, sym, ap, ap₂, ◌∙◌, arith}
 use Rattle.std.specs.List.{count_by, list_all}
 use Rattle.std.proofs.lemmas.Bool.{and_parts}
@@ -28,7 +28,7 @@ batches-append log more = flat_map-append batch_in log more
 pub events-append : (log more : List Event) → boundary_events (log ++ more) ≡ boundary_events log ++ boundary_events more
 events-append log more = filter-append is_at_boundary log more
 
--- nothing that stands within a batch stands at a boundary
+-- no event within a batch is at a boundary
 pub inside_is_at_none : (more : List Event) → list_all is_inside more ≡ true → boundary_events more ≡ []
 inside_is_at_none [] all = refl
 inside_is_at_none (event ∷ more) all =
@@ -43,7 +43,7 @@ inside_is_at_none (event ∷ more) all =
     first (passed step) is none = none
     first closed is none = absurd (cc)
 
--- hosts are set aside at boundaries alone
+-- hosts are held only at boundaries
 pub aside_is_at : (hosts : List ℕ) → boundary_events (setting_aside hosts) ≡ setting_aside hosts
 aside_is_at [] = refl
 aside_is_at (host ∷ hosts) = refl
@@ -60,7 +60,7 @@ pub events_at_each-push : (boundaries : List Boundary) (boundary : Boundary) →
 events_at_each-push boundaries boundary =
     flat_map-append events_at boundaries (boundary ∷ []) ∙ ap (λ events. events_at_each boundaries ++ events) (append-nil (events_at boundary))
 
--- the batches of a log stand in what it tells of its boundaries
+-- the batches of a log are among its boundary events
 batches_at_boundaries : (log : List Event) → batches_in log ≡ batches_in (boundary_events log)
 batches_at_boundaries [] = refl
 batches_at_boundaries (set_aside hosts ∷ log) = batches_at_boundaries log
@@ -80,7 +80,7 @@ batches_at_each (boundary ∷ rest) =
         batches-append (aside_at boundary) (opened (next_batch boundary.answer) ∷ [])
         ∙ ap (λ batches. batches ++ next_batch boundary.answer ∷ []) (aside_opens_none (host_numbers boundary.held.items))
 
--- the batches of a log that tells this of its boundaries
+-- the batches of a log with these boundary events
 pub batches_by_events : (log : List Event) (behind : List Boundary) (begun : List Event) → boundary_events log ≡ events_at_each behind ++ begun → batches_in begun ≡ [] → batches_in log ≡ opened_batches behind
 batches_by_events log behind begun events none =
     batches_at_boundaries log ∙ ap batches_in events ∙ batches-append (events_at_each behind) begun ∙ ap₂ ◌++◌ (batches_at_each behind) none
@@ -93,7 +93,7 @@ rows_behind-push roll columns host [] before boundary = refl
 rows_behind-push roll columns host (b ∷ bs) before boundary =
     rows_behind-push roll columns host bs (cond (has_number host (next_batch b.answer)) (rows_of roll columns (next_batch b.answer) host) before) boundary
 
--- as many batches are opened as events open one
+-- the number of batches is the number of events that open one
 pub opened_are : (log : List Written) → length (batches_in (events_of log)) ≡ count_by (λ event. opens (event_of event)) log
 opened_are log = is_count_by (λ l. length (batches_in (events_of l))) (λ event. opens (event_of event)) refl one log
   where

@@ -1,4 +1,4 @@
--- A batch that was opened at a boundary is closed.
+-- Closing a batch that was opened at a boundary.
 use Rattle.std.proofs.Common.{◌≡◌, ℕ, Bool, true, false, cond, Option, None, List, [], ◌∷◌, ◌++◌, length, refl, sym, ap, ◌∙◌, subst, append_assoc}
 use Rattle.std.specs.List.{list_all}
 use Rattle.std.proofs.lemmas.List.{append-nil}
@@ -42,7 +42,7 @@ module _ (kernel : KernelView) (boundary : Boundary) (more : List Event)
   after : state_of (done kernel boundary more) ≡ next (roll_of kernel) (state_of (worked kernel boundary more)) closed
   after = one_event_more (roll_of kernel) (kernel.log ++ opened (next_batch boundary.answer) ∷ more) closed
 
-  -- all other hosts are as they were
+  -- all other hosts are unchanged
   pub others_same : AreSameBut (next_batch boundary.answer) (state_of kernel).statuses (state_of (done kernel boundary more)).statuses
   others_same host out =
       let left = events_leave (roll_of kernel) (state_of kernel) (opened (next_batch boundary.answer)) host out in
@@ -54,7 +54,7 @@ module _ (kernel : KernelView) (boundary : Boundary) (more : List Event)
       events-append (worked kernel boundary more).log (closed ∷ []) ∙ append-nil (boundary_events (worked kernel boundary more).log) ∙ events-append kernel.log (opened (next_batch boundary.answer) ∷ more)
       ∙ ap (λ rest. boundary_events kernel.log ++ opened (next_batch boundary.answer) ∷ rest) (inside_is_at_none more inside)
 
-  -- the play has come to the boundary with its batch behind it
+  -- the play reached the boundary, and its batch has ended
   module _ (columns : Columns) (behind : List Boundary) (before : Option End) (halt : Option ℕ)
       (at : (state_of (worked kernel boundary more)).phase ≡ ended halt) (goes_on : end_here before boundary ≡ None)
       (come : HasComeTo columns kernel behind boundary before) (ends : EndsByColumns (roll_of kernel) columns (state_of (worked kernel boundary more)) halt) where

@@ -1,4 +1,4 @@
--- A run comes to its next boundary.
+-- A run reaches its next boundary.
 use Rattle.std.proofs.Common.{◌≡◌, ℕ, ◌≤◌, Option, List, ◌++◌, length, refl, sym, ap, ap₂, ◌∙◌, subst, arith}
 use Rattle.std.specs.Prelude.{min, ◌-◌, slice_get, option_and_then}
 use Rattle.domains.specs.Ids.{host_numbers}
@@ -20,7 +20,7 @@ use Rattle.roll_run.specs.Runs.{boundary_events, setting_aside}
 use Rattle.roll_run.specs.Inside.{HasCome, HasComeTo, HasSetAside, IsAt, IsBetween, grown, setting_by}
 use Rattle.roll_run.proofs.Behind.{aside_is_at, events-append}
 
--- no list of sizes is so long that the number of batches is not to be told exactly
+-- no list of sizes is long enough for the saturated number of batches to matter
 pub cap_of_few : (play : Play) (targeted opened : ℕ) → cap play.sizes.items targeted (min opened 4294967295) ≡ cap play.sizes.items targeted opened
 cap_of_few play targeted opened =
     ap (λ place. option_and_then (λ (size : Size). bound size targeted) (slice_get play.sizes.items place)) (same (length play.sizes.items) play.sound.few_sizes)
@@ -32,7 +32,7 @@ sets_aside_more : (kernel : KernelView) (hosts : List ℕ) → boundary_events (
 sets_aside_more kernel hosts =
     events-append kernel.log (setting_aside hosts) ∙ ap (λ events. boundary_events kernel.log ++ events) (aside_is_at hosts)
 
--- the boundary that is planned once hosts were set aside
+-- the boundary that is planned after hosts were held
 pub notes : {R : Type 0} (old new : BoardView R) (behind : List Boundary) (boundary : Boundary) (before : Option End) (hosts : List ℕ) (most : Option ℕ) → HasSetAside hosts old new → IsBetween old.kernel behind before
     → hosts ≡ aside_by old.kernel.play.on_blocked old.kernel.fleet (state_of old.kernel).statuses → host_numbers boundary.held.items ≡ hosts
     → boundary.statuses.items ≡ (state_of new.kernel).statuses

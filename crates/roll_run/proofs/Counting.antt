@@ -37,12 +37,12 @@ told_length [] statuses counted = refl
 told_length (host ∷ hosts) statuses counted =
     told_length hosts statuses (moved counted host (place_of (status_at statuses host))) ∙ length-set counted.places host (place_of (status_at statuses host))
 
--- the counts have a place for each host, and keep it
+-- the counts have an entry for each host, and preserve that
 pub placed_still : (hosts : List ℕ) (statuses : List Status) (counted now : Counted) → length counted.places ≡ length counted.fleet.hosts → now ≡ told_places hosts statuses counted → length now.places ≡ length now.fleet.hosts
 placed_still hosts statuses counted now placed told =
     ap (λ (c : Counted). length c.places) told ∙ told_length hosts statuses counted ∙ placed ∙ sym (ap (λ (c : Counted). length c.fleet.hosts) told ∙ ap (λ fleet. length fleet.hosts) (told_fleet hosts statuses counted))
 
--- one host more
+-- one more host
 pub told_next : (hosts : List HostId) (place : ℕ) (d : HostId) (statuses : List Status) (counted now new : Counted) → place < length hosts
     → now ≡ told_places (take place (host_numbers hosts)) statuses counted → new ≡ moved now (get_or hosts place d).index (place_of (status_at statuses (get_or hosts place d).index))
     → new ≡ told_places (take (place + 1) (host_numbers hosts)) statuses counted
@@ -53,7 +53,7 @@ told_next hosts place d statuses counted now new within told is =
     is ∙ ap (λ h. moved now h (place_of (status_at statuses h))) (sym (number_of_host hosts place d within))
     ∙ ap (λ c. moved c host (place_of (status_at statuses host))) told ∙ sym (ap (λ l. told_places l statuses counted) more ∙ told_more (take place numbers) host statuses counted)
 
--- hosts that are set aside are counted so
+-- hosts that are held are counted as held
 pub follows : {R : Type 0} (old new : BoardView R) (hosts : List ℕ) (counted now : Counted) → HasSetAside hosts old new → AreCountsOf (state_of old.kernel).statuses counted
     → now ≡ told_places hosts (state_of new.kernel).statuses counted → AreCountsOf (state_of new.kernel).statuses now
 follows old new hosts counted now aside are told =

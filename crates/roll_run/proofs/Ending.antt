@@ -1,4 +1,4 @@
--- A run is over: it came to its end, or a fault broke it off.
+-- A run has ended or was interrupted.
 use Rattle.std.proofs.Common.{◌≡◌, ℕ, ◌+◌, ◌<◌, ◌⊎◌, inl, inr, Option, Some, None, List, [], ◌∷◌, ◌++◌, length, length-append, take, get_or, refl, sym, ap, ap₂, ◌∙◌, subst, arith, append_assoc}
 use Rattle.std.specs.List.{count_by}
 use Rattle.std.proofs.lemmas.List.{append-nil, length-map}
@@ -75,7 +75,7 @@ module _ (kernel : KernelView) (more : List Event) where
   set_out_from statuses are (inr hosts) =
       inr (hosts ∙ ap (λ (l : List Status). setting_aside (aside_by kernel.play.on_blocked kernel.fleet l)) are)
 
--- it is broken off before it has come to its next boundary
+-- it is interrupted before it has reached its next boundary
 pub broken_between : (kernel new : KernelView) (behind : List Boundary) (before : Option End) (more : List Event) → IsBetween kernel behind before → ((more ≡ []) ⊎ (more ≡ setting_aside (aside_in kernel))) → new ≡ grown kernel more
     → IsOnCourse new behind
 broken_between kernel new behind before more at begun is =
@@ -108,7 +108,7 @@ last_between kernel new behind before more at begun is =
     batches : batches_in (grown kernel more).log ≡ opened_batches behind
     batches = batches_by_events (grown kernel more).log behind more (events-append kernel.log more ∙ ap₂ ◌++◌ at.events (set_out_at kernel more begun)) (set_out_opens_none kernel more begun)
 
--- the batch of a boundary is opened, whatever is behind that in the batch
+-- the batch of a boundary is opened, whatever follows in the batch
 opened_at : (kernel : KernelView) (behind : List Boundary) (boundary : Boundary) (before : Option End) (more : List Event) → IsAt kernel behind boundary before → boundary_events more ≡ opened (next_batch boundary.answer) ∷ []
     → boundary_events (grown kernel more).log ≡ events_at_each (behind ++ boundary ∷ []) ++ []
 opened_at kernel behind boundary before more at one =
@@ -123,7 +123,7 @@ opens_one batch old new broken = by broken.opens_it
     by (inl none) = inl none
     by (inr one) = inr (ap boundary_events one ∙ ap (λ rest. opened batch ∷ rest) (inside_is_at_none broken.within broken.inside))
 
--- it is broken off as it opens the batch of a boundary, or within it
+-- it is interrupted at the opening of a boundary's batch, or within the batch
 pub broken_at : {R : Type 0} (old new : BoardView R) (behind boundaries : List Boundary) (boundary : Boundary) (before : Option End)
     → IsAt old.kernel behind boundary before → boundaries ≡ behind ++ boundary ∷ [] → end_here before boundary ≡ None
     → HasBroken (next_batch boundary.answer) old new → IsOnCourse new.kernel boundaries
@@ -141,7 +141,7 @@ broken_at old new behind boundaries boundary before at are goes_on broken =
     unopened none =
         events-append old.kernel.log broken.more ∙ ap (λ events. boundary_events old.kernel.log ++ boundary_events events) none ∙ append-nil (boundary_events old.kernel.log) ∙ at.events
 
-    -- it was
+    -- its batch was opened
     all_opened : boundary_events broken.more ≡ opened (next_batch boundary.answer) ∷ [] → boundary_events (grown old.kernel broken.more).log ≡ events_at_each (behind ++ boundary ∷ []) ++ []
     all_opened one = opened_at old.kernel behind boundary before broken.more at one
 
@@ -181,7 +181,7 @@ last_opened old new behind boundaries boundary before at are broken =
         let batches = batches_by_events (grown old.kernel broken.more).log (behind ++ boundary ∷ []) [] (opened_at old.kernel behind boundary before broken.more at one) refl in
         inr (ap length are ∙ sym (ap length batches ∙ length-map (behind ++ boundary ∷ []) (λ (b : Boundary). next_batch b.answer)))
 
--- it was asked to end at the boundary, or its keeper refused the batch
+-- it was asked to end at the boundary, or its recorder refused the batch
 pub asked_at : {R : Type 0} (old new : BoardView R) (behind boundaries : List Boundary) (boundary : Boundary) (before : Option End) (why : Break)
     → IsAt old.kernel behind boundary before → boundaries ≡ behind ++ boundary ∷ [] → (why ≡ Asked → new ≡ old) → (why ≡ Unkept → new ≡ old) → IsAskedAt boundaries new.kernel.log why
 asked_at {R} old new behind boundaries boundary before why at are still unkept = by why still unkept
@@ -199,7 +199,7 @@ asked_at {R} old new behind boundaries boundary before why at are still unkept =
     by Asked still unkept = one_more (still refl)
     by Unkept still unkept = one_more (unkept refl)
 
--- what the board hands out
+-- what the board returns
 module _ (may : Work → Ending → Type 0) (kernel : KernelView) where
   counted_by : (counts : List Counts) → leavings.AreCounted (roll_of kernel) (state_of kernel) counts → AreCounted (roll_of kernel) (state_of kernel) counts
   counted_by counts are host within =

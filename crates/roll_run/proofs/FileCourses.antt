@@ -1,4 +1,4 @@
--- The runs of a file of plays are its courses.
+-- The runs of a file of plays match its forecasts.
 use Rattle.std.proofs.Common.{◌≡◌, ◌⊎◌, inl, inr, ℕ, ◌+◌, Some, List, [], ◌∷◌, ◌++◌, length, map, zero, suc, refl, sym, ap, ◌∙◌, subst, arith}
 use Rattle.std.proofs.Math.Path.{fun_ext}
 use Rattle.domains.specs.FleetViews.{FleetView}
@@ -45,7 +45,7 @@ same_vars (one ∷ ones) [] same host = absurd same
 same_vars (one ∷ ones) (other ∷ others) same zero = same_host one other same.0
 same_vars (one ∷ ones) (other ∷ others) same (suc host) = same_vars ones others same.1 host
 
--- a play begins so after a run
+-- how a play starts after a run
 pub begins_after : (fleet : FleetView) (play : Play) (forks : ℕ) (before : Run) (roll : Roll) → IsRollAfter fleet play forks before roll → roll ≡ roll_after fleet forks play before
 begins_after fleet play forks before roll begins =
     begins.roll_is ∙ ap made (fun_ext (same_vars begins.vars before.vars.items begins.same))
@@ -58,7 +58,7 @@ last_of : (statuses : List Status) (behind : List Boundary) (last : Boundary) �
 last_of statuses [] last = refl
 last_of statuses (boundary ∷ behind) last = last_of boundary.statuses.items behind last
 
--- where no course follows
+-- if no forecast follows
 none_follow : (end : End) (courses : List Course) {Goes : Type 0} → courses ≡ [] → (end ≡ Finished → Goes) → GoesOn end courses Goes
 none_follow Finished courses none goes = goes refl
 none_follow Held courses none goes = none
@@ -67,7 +67,7 @@ none_follow (TooManyFailed step failed size) courses none goes = none
 none_follow AllFailed courses none goes = none
 
 module _ (may : Work → Ending → Type 0) (columns : ℕ → Columns) (fleet : FleetView) (forks : ℕ) where
-  -- a run leaves the statuses with which its course ends
+  -- a run leaves the statuses with which its forecast ends
   left_by : (roll : Roll) (run : Run) (log : List Event) (by : Columns) → IsRun may fleet roll run log → Tells by roll log → last_statuses [] run.boundaries.items ≡ run.statuses.items
   left_by roll run log by is tells =
       let took = is.by by tells in

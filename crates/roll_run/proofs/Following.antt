@@ -1,4 +1,4 @@
--- Plays one after the other.
+-- Plays in sequence.
 use Rattle.std.proofs.Common.{◌≡◌, ℕ, ◌<◌, ◌⊎◌, true, false, arith, Option, None, Some, List, [], ◌∷◌, ◌++◌, length, flat_map, get_or, suc, ◌+◌, ◌-◌, ◌≤◌, drop, take, refl, sym, ap, ◌∙◌, subst, append_assoc, inl, inr}
 use Rattle.std.proofs.Math.Seq.{take-length}
 use Rattle.std.specs.List.{find}
@@ -73,7 +73,7 @@ module _ (may : Work → Ending → Type 0) (fleet : FleetView) (forks : ℕ) wh
   pub none_left : (before : Run) (old new : List Run) → new ≡ old ++ before ∷ [] → HasRunAfter may fleet forks [] before old new []
   none_left before old new is = record { rest = []; items = is; runs = (refl, refl) }
 
-  -- the play ended otherwise than finished
+  -- the play did not end as finished
   pub stops_there : (plays : List Play) (before : Run) (old new : List Run) → (before.end ≡ Finished → ⊥) → new ≡ old ++ before ∷ [] → HasRunAfter may fleet forks plays before old new []
   stops_there plays before old new not is = record { rest = []; items = is; runs = by plays }
     where
@@ -81,7 +81,7 @@ module _ (may : Work → Ending → Type 0) (fleet : FleetView) (forks : ℕ) wh
       by [] = (refl, refl)
       by (play ∷ rest) = (refl, not)
 
-  -- one play more, and those after it
+  -- one more play, and those after it
   pub one_more : (play : Play) (plays : List Play) (before run : Run) (log : List Event) (logs : List (List Event)) (old kept new : List Run) → before.end ≡ Finished → IsRunAfter may fleet play forks before run log → kept ≡ old ++ before ∷ []
       → HasRunAfter may fleet forks plays run kept new logs → HasRunAfter may fleet forks (play ∷ plays) before old new (log ∷ logs)
   one_more play plays before run log logs old kept new finished after is has =
@@ -92,12 +92,12 @@ module _ (may : Work → Ending → Type 0) (fleet : FleetView) (forks : ℕ) wh
   one_broken_more play plays before run log logs old kept new last finished after is has =
       record { rest = run ∷ has.rest; items = has.items ∙ ap (λ l. l ++ run ∷ has.rest) is ∙ append_assoc old (before ∷ []) (run ∷ has.rest); broken = (finished, after, has.broken) }
 
-  -- the next play was broken off, or not begun
+  -- the next play was interrupted, or not started
   pub breaks_there : (play : Play) (plays : List Play) (before : Run) (old new : List Run) (last : RunFault) (logs : List (List Event)) → before.end ≡ Finished
       → (IsBrokenAfter may fleet play forks before last logs ⊎ IsNotBegun before.statuses.items last logs) → new ≡ old ++ before ∷ [] → HasBrokenAfter may fleet forks (play ∷ plays) before old new last logs
   breaks_there play plays before old new last logs finished broken is = record { rest = []; items = is; broken = (finished, broken) }
 
--- what holds of an answer that is known
+-- what holds for a known answer
 pub ok_of : {V E : Type 0} (P : V → Type 0) (result : Result V E) (value : V) → result ≡ Ok value → IfOk result P → P value
 ok_of {V} {E} P result value is holds = subst (λ (r : Result V E). IfOk r P) is holds
 
@@ -116,15 +116,15 @@ gains_more old mid new first then more = record {
   are = then more.logs more.are;
 }
 
--- it gained nothing
+-- it gained no log
 pub gains_none : {Is : List (List Event) → Type 0} (old new : List (List Event)) → new ≡ old → Is [] → Gains old new Is
 gains_none old new same is = record { logs = []; grown = same ∙ sym (append-nil old); are = is }
 
--- it gained the same logs, of which more is known
+-- it gained the same logs, with more known about them
 pub gains_as : {Is Are : List (List Event) → Type 0} (old new : List (List Event)) → ((logs : List (List Event)) → Is logs → Are logs) → Gains old new Is → Gains old new Are
 gains_as old new then gained = record { logs = gained.logs; grown = gained.grown; are = then gained.logs gained.are }
 
--- one play more, with what the history gained by it
+-- one more play, and what the history gained by it
 module _ (may : Work → Ending → Type 0) (fleet : FleetView) (forks : ℕ) (plays : List Play) (play : Play) (rest : List Play) (split : plays ≡ play ∷ rest) (before : Run) (finished : before.end ≡ Finished) (roll : Roll)
     (begins : IsRollAfter fleet play forks before roll) (old kept new : List Run) (puts : kept ≡ old ++ before ∷ []) (history mid after : List (List Event)) where
   follows : (run : Run) (log : List Event) → IsRun may fleet roll run log → IsRunAfter may fleet play forks before run log
@@ -148,7 +148,7 @@ module _ (may : Work → Ending → Type 0) (fleet : FleetView) (forks : ℕ) (p
       (λ (logs : List (List Event)) is. subst (λ (l : List Play). HasBrokenAfter may fleet forks l before old kept last logs) (sym split)
       (breaks_there may fleet forks play rest before old kept last logs finished (inl (record { roll = roll; begins = begins; broken = is })) puts)) broke
 
--- one host more
+-- one more host
 same_push : (ones others : List Vars) (one other : Vars) → AreSameHosts ones others → IsSameHost one other → AreSameHosts (ones ++ one ∷ []) (others ++ other ∷ [])
 same_push [] [] one other same last = (last, tt)
 same_push [] (o ∷ os) one other same last = absurd same
@@ -196,7 +196,7 @@ pub if_err : {V E : Type 0} (result : Result V E) {P Q : E → Type 0} → ((fau
 if_err (Ok value) then is = tt
 if_err (Err fault) then is = then fault is
 
--- nothing was begun
+-- nothing was started
 pub unbegun_runs : (may : Work → Ending → Type 0) (fleet : FleetView) (forks : ℕ) (plays : List Play) (statuses : List Status) (vars : List Vars) (fault : RunsFault) → 0 < length plays → fault.done.items ≡ [] → IsNotBegun statuses fault.last []
     → AreBroken may fleet forks plays statuses vars fault.done.items fault.last []
 unbegun_runs may fleet forks [] statuses vars fault some none not = absurd (omega (arith, some))

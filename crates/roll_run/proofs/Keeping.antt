@@ -1,4 +1,4 @@
--- What is kept of a log that grows.
+-- What is recorded of a log that grows.
 use Rattle.std.proofs.Common.{◌≡◌, ℕ, Bool, true, ◌&&◌, ◌⊎◌, inl, inr, Option, Some, None, List, [], ◌∷◌, ◌++◌, map, refl, sym, ap, ◌∙◌, subst, append_assoc}
 use Rattle.std.specs.List.{list_all}
 use Rattle.std.specs.Prelude.{Result, Ok, Err, IfErr, IfOk, OnErr}
@@ -26,7 +26,7 @@ use Rattle.roll_run.specs.declared.run.Run.{Run}
 use Rattle.roll_run.specs.declared.turns.Turn.{Turn}
 use Rattle.roll_run.specs.declared.turns.Turn.TheVariants.{Behind, Ended, Broken}
 
--- there is nothing to keep of what goes on within a batch
+-- events within a batch are not recorded
 inside_keeps_none : (roll : Roll) (behind : List Event) (state : State) (more : List Event) → list_all is_inside more ≡ true → entries roll behind state more ≡ []
 inside_keeps_none roll behind state [] all = refl
 inside_keeps_none roll behind state (event ∷ more) all =
@@ -63,7 +63,7 @@ module _ {K : Type 0} (keeps : K → K → FleetView → JournalEntry → Type 0
   kept_more fleet before mid after (entry ∷ first) later kept more =
       (kept.0, kept.1, kept_more fleet kept.0 mid after first later kept.2 more)
 
-  -- the log and what is kept are as they were
+  -- the log and the records are unchanged
   pub keeps_still : (old new : KernelView) (before : K) → new ≡ old → KeepsUp keeps old new before before
   keeps_still old new before same =
       record { more = []; kernel = same ∙ ap (λ (log : List Event). record old { log = log }) (sym (append-nil old.log)); kept = refl }
@@ -93,7 +93,7 @@ module _ {K : Type 0} (keeps : K → K → FleetView → JournalEntry → Type 0
     ahead = subst (λ (k : KernelView). IsAhead keeps k.fleet other.mid after) one.kernel other.ahead;
   }
 
-  -- nothing is ahead
+  -- no entry is ahead
   pub ahead_by_none : (old new : KernelView) (before after : K) → KeepsUp keeps old new before after → KeepsAhead keeps old new before after
   ahead_by_none old new before after up = record { mid = after; up = up; ahead = inl refl }
 
@@ -103,7 +103,7 @@ module _ {K : Type 0} (keeps : K → K → FleetView → JournalEntry → Type 0
   turn_further old mid new before between after (Broken why) one other = ahead_further old mid new before between after one other
 
   module _ {R : Type 0} (old new : BoardView R) where
-    -- hosts were set aside
+    -- hosts were held
     pub keeps_aside : (hosts : List ℕ) (before after : K) → new ≡ with_event old (set_aside hosts) → keeps before after old.kernel.fleet (aside hosts) → KeepsUp keeps old.kernel new.kernel before after
     keeps_aside hosts before after is kept =
         record { more = set_aside hosts ∷ []; kernel = ap (λ (b : BoardView R). b.kernel) is; kept = (after, kept, refl) }
@@ -116,7 +116,7 @@ module _ {K : Type 0} (keeps : K → K → FleetView → JournalEntry → Type 0
       kept = subst (HasKept keeps old.kernel.fleet before after) (sym (opening_alone (roll_of old.kernel) old.kernel.log (state_of old.kernel) batch run.more run.inside)) (after, kept, refl);
     }
 
-    -- or broken off
+    -- or interrupted
     pub keeps_broken : (batch : List ℕ) (before after : K) → HasBroken batch old new → keeps before after old.kernel.fleet (opening old.kernel.log batch) → KeepsAhead keeps old.kernel new.kernel before after
     keeps_broken batch before after broken kept = by broken.opens_it
       where
@@ -169,7 +169,7 @@ module _ {K : Type 0} (keeps : K → K → FleetView → JournalEntry → Type 0
           subst (λ (b : List ℕ). keeps mid after ran.kernel.fleet (closing b (next (roll_of ran.kernel) (state_of ran.kernel) closed).statuses)) (sym batch_is)
           (subst (λ (l : List Status). keeps mid after ran.kernel.fleet (closing batch l)) after_is kept)
 
-  -- what is kept of a play from its beginning on
+  -- what is recorded of a play from its start on
   module _ (kernel new : KernelView) (before begun mid : K) (none : kernel.log ≡ []) (begins : keeps before begun kernel.fleet (beginning kernel.start)) (legal : IsLegal (roll_of new) (start_state (roll_of new)) new.log) where
     pub play_kept : (after : K) (end : Option End) → KeepsUp keeps kernel new begun mid → HasKept keeps kernel.fleet mid after (end_entries end) → AreKept keeps kernel.fleet before after (end ∷ []) (new.log ∷ [])
     play_kept after end up ends =
@@ -194,7 +194,7 @@ module _ {K : Type 0} (keeps : K → K → FleetView → JournalEntry → Type 0
   play_kept_ahead kernel new before begun after none begins legal far =
       record { broken = None ∷ []; one = inr refl; mid = far.mid; kept = play_kept kernel new before begun far.mid none begins legal far.mid None far.up refl; ahead = far.ahead }
 
-  -- so it is known of what a run leaves, whether it came to its end or not
+  -- likewise for the result of a run, whether or not it ended
   module _ (kernel new : KernelView) (before begun mid after : K) (old history : List (List Event)) (gone : Result End Break) (left : Result Run RunFault) (none : kernel.log ≡ []) (begins : keeps before begun kernel.fleet (beginning kernel.start))
       (gained : history ≡ old ++ new.log ∷ []) where
     abbrev IsLegalNow : Type 0
@@ -230,7 +230,7 @@ module _ {K : Type 0} (keeps : K → K → FleetView → JournalEntry → Type 0
           are = play_kept_ahead kernel new before begun after none begins legal (subst (λ (k : K). KeepsAhead keeps kernel new begun k) (sym same) far);
         }
 
-  -- and of more plays
+  -- and for more plays
   logs_kept : (fleet : FleetView) (before mid after : K) (ends more : List (Option End)) (first later : List (List Event)) → AreKept keeps fleet before mid ends first → AreKept keeps fleet mid after more later
       → AreKept keeps fleet before after (ends ++ more) (first ++ later)
   logs_kept fleet before mid after [] more [] later same kept = subst (λ k. AreKept keeps fleet k after more later) same kept
@@ -256,7 +256,7 @@ module _ {K : Type 0} (keeps : K → K → FleetView → JournalEntry → Type 0
       ahead = far.ahead;
     }
 
-    -- behind the run stand the rest
+    -- the rest follows the run
     pub kept_first : (was now : List Run) → was ≡ [] → Gains between new (IsKeptAfter keeps fleet run was now mid after) → Gains old new (AreKept keeps fleet before after (map Some (ends_of now)))
     kept_first was now none more = record {
       logs = one.logs ++ more.logs;
@@ -273,7 +273,7 @@ module _ {K : Type 0} (keeps : K → K → FleetView → JournalEntry → Type 0
           (behind_ahead more.are.rest more.logs more.are.kept);
     }
 
-    -- so they do behind one that was kept before
+    -- likewise after one that was recorded before
     module _ (last : Run) (was mids now : List Run) (kept_is : mids ≡ was ++ last ∷ []) where
       items_are : (rest : List Run) → now ≡ mids ++ run ∷ rest → now ≡ was ++ last ∷ (run ∷ rest)
       items_are rest is = is ∙ ap (λ (l : List Run). l ++ run ∷ rest) kept_is ∙ append_assoc was (last ∷ []) (run ∷ rest)
@@ -292,7 +292,7 @@ module _ {K : Type 0} (keeps : K → K → FleetView → JournalEntry → Type 0
         are = record { rest = run ∷ more.are.rest; items = items_are more.are.rest more.are.items; kept = behind_ahead more.are.rest more.logs more.are.kept };
       }
 
-  -- nothing was kept, and no log gained
+  -- nothing was recorded, and no log gained
   pub none_further : (fleet : FleetView) (before after : K) (history : List (List Event)) (last : Run) (was now : List Run) → now ≡ was ++ last ∷ [] → after ≡ before
       → Gains history history (IsKeptAfter keeps fleet last was now before after)
   none_further fleet before after history last was now items same = record { logs = []; grown = sym (append-nil history); are = record { rest = []; items = items; kept = same } }
@@ -301,7 +301,7 @@ module _ {K : Type 0} (keeps : K → K → FleetView → JournalEntry → Type 0
   none_ahead fleet before after history same =
       record { logs = []; grown = sym (append-nil history); are = record { broken = []; one = inl refl; mid = before; kept = refl; ahead = inl same } }
 
-  -- the play behind those that are done was broken off
+  -- the play after those that are done was interrupted
   pub broken_after : (fleet : FleetView) (before after : K) (old new : List (List Event)) (last : Run) (was now : List Run) → now ≡ was ++ last ∷ [] → Gains old new (AreKeptAhead keeps fleet before after [])
       → Gains old new (IsKeptAheadAfter keeps fleet last was now before after)
   broken_after fleet before after old new last was now items far =

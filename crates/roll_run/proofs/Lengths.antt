@@ -1,4 +1,4 @@
--- A log leaves as many statuses as there were at its start.
+-- The state after a log has as many statuses as at its start.
 use Rattle.std.proofs.Common.{◌≡◌, ℕ, Bool, true, false, if◌then◌else◌, Option, List, [], ◌∷◌, length, set, refl, ◌∙◌}
 use Rattle.std.proofs.lemmas.List.{length-set}
 use Rattle.fleet_states.specs.declared.status.Status.{Status}

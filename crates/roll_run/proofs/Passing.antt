@@ -1,4 +1,4 @@
--- What single calls of a board add up to.
+-- The combined effect of single calls of a board.
 use Rattle.std.proofs.Common.{◌≡◌, ℕ, Bool, true, false, ◌&&◌, ◌<◌, ◌⊎◌, inl, inr, Option, Some, None, List, [], ◌∷◌, ◌++◌, length, refl, sym, ap, ◌∙◌, subst, append_assoc}
 use Rattle.std.specs.List.{list_all}
 use Rattle.std.proofs.lemmas.Bool.{and_parts}
@@ -66,7 +66,7 @@ pub at_its_halt : (told : Next) (phase : Phase) → told ≡ Halt → GoesTo tol
 at_its_halt told phase is goes = subst (λ n. GoesTo n phase) is goes
 
 module _ {R : Type 0} where
-  -- workers leave the batch at its step
+  -- workers do not change the step of the batch
   pub still_working : (old new : BoardView R) → Continues old new → is_working (state_of old.kernel).phase ≡ true → is_working (state_of new.kernel).phase ≡ true
   still_working old new is here =
       let roll = roll_of old.kernel in
@@ -85,7 +85,7 @@ module _ {R : Type 0} where
     context = context ∙ was.context;
   }
 
-  -- workers have been at the present step
+  -- workers have worked on the current step
   pub works_on : (first old new : BoardView R) → HasWorked first old → Continues old new → HasWorked first new
   works_on first old new was is = works_more first old new is.more was (work_is_inside is.more is.work) is.kernel is.context
 
@@ -102,11 +102,11 @@ module _ {R : Type 0} where
     tallies = ap (λ (b : BoardView R). b.tallies) rest ∙ tallies;
   }
 
-  -- and another one before it
+  -- likewise after another one before it
   pub works_further : (first old new : BoardView R) → HasWorked first old → HasWorked old new → HasWorked first new
   works_further first old new was is = works_more first old new is.more was is.inside is.kernel is.context
 
-  -- a batch that was opened, and worked on until it was over
+  -- a batch that was opened, and worked on until it ended
   pub runs : (old begun new : BoardView R) (batch : List ℕ) → begun ≡ with_event old (opened batch) → IsWorkedOff begun new → HasRun batch old new
   runs old begun new batch opens done = record {
     more = done.worked.more;
@@ -127,7 +127,7 @@ module _ {R : Type 0} where
     context = is.context ∙ ap (λ (b : BoardView R). b.context) opens;
   }
 
-  -- a batch that was not
+  -- a batch that was not opened
   pub breaks_at_once : (old new : BoardView R) (batch : List ℕ) → new ≡ old → HasBroken batch old new
   breaks_at_once old new batch same = record {
     more = [];
@@ -152,7 +152,7 @@ module _ {R : Type 0} where
     tallies = ap (λ (b : BoardView R). b.tallies) same;
   }
 
-  -- the hosts that are to be were set aside
+  -- the hosts that are to be held were
   pub sets_out : (old new : BoardView R) (hosts : List ℕ) → HasSetAside hosts old new → hosts ≡ aside_in old.kernel → HasSetOut old new
   sets_out old new hosts aside are =
       record { more = setting_aside hosts; begun = inr (ap setting_aside are); kernel = aside.kernel; context = aside.context; tallies = aside.tallies }

@@ -1,4 +1,4 @@
--- The logs of runs are safe, one a play.
+-- The logs of runs are safe, one per play.
 use Rattle.std.proofs.Common.{◌≡◌, ◌⊎◌, inl, inr, ℕ, List, [], ◌∷◌, sym, ap, ◌∙◌, subst}
 use Rattle.domains.specs.FleetViews.{FleetView}
 use Rattle.fleet_states.specs.declared.status.Status.{Status}
@@ -17,7 +17,7 @@ use Rattle.roll_run.specs.Plays.{AreBrokenAfter, AreBrokenOff, AreRunsAfter, Are
 use Rattle.roll_run.specs.Laws.{BrokenRunsAreSafe, RunsAreSafe}
 
 module _ (may : Work → Ending → Type 0) (fleet : FleetView) (forks : ℕ) where
-  -- behind a run stands the roll of the next play
+  -- the run of the next play follows a run
   follows : (play : Play) (before : Run) (roll : Roll) (log : List Event) (next : Roll) → IsRun may fleet roll before log → IsRollAfter fleet play forks before next → Follows fleet play forks roll log next
   follows play before roll log next is begins = record {
     over = is.over;
@@ -40,7 +40,7 @@ module _ (may : Work → Ending → Type 0) (fleet : FleetView) (forks : ℕ) wh
       let one = after.1 in
       (one.roll, follows play before roll last one.roll is one.begins, one.run_is.is_safe, later_safe plays run one.roll log one.run_is rest logs after.2)
 
-  -- it was broken off
+  -- it was interrupted
   next_safe : (play : Play) (plays : List Play) (before : Run) (roll : Roll) (last : List Event) → IsRun may fleet roll before last → (next : Roll) (fault : RunFault) (logs : List (List Event))
       → IsRollAfter fleet play forks before next → IsBrokenOrNotBegun may fleet next fault logs → AreSafeAfter may fleet forks (play ∷ plays) roll last logs
   next_safe play plays before roll last is next fault logs begins (inl cut) =

@@ -66,7 +66,7 @@ some_boundary boundaries behind boundary are = subst (λ n. 0 < n) (sym (ap leng
     more [] = omega arith
     more (b ∷ bs) = omega arith
 
--- where a play goes on, the batch of its boundary has somebody in it
+-- if a play continues, the batch of its boundary has a host
 pub opens_some : (fleet : FleetView) (bound : Option ℕ) (before : Option End) (boundary : Boundary) → IsBest fleet boundary.statuses.items bound boundary.answer → end_here before boundary ≡ None → 0 < length (next_batch boundary.answer)
 opens_some fleet bound before boundary best goes_on = by before boundary.answer best goes_on
   where
@@ -164,13 +164,13 @@ module _ {R : Type 0} (old ran new : BoardView R) (behind : List Boundary) (boun
   same_behind =
       same_by old new (kernels.with_event (record old.kernel { log = old.kernel.log ++ opened (next_batch boundary.answer) ∷ run.more }) closed) refl done_is (ap (λ (b : BoardView R). b.context) close ∙ run.context)
 
--- what a step says of its fault is so where the board has come to
+-- what a step reports about its error is true in the board's state
 pub step_says : {R : Type 0} (forks : ℕ) (board : BoardView R) (why : StepFault) → IsFaultOf forks board why → IsFaultIn forks (state_of board.kernel) why
 step_says forks board Mem is = tt
 step_says forks board (WorkerMem at) is = is
 step_says forks board Mixed is = is
 
--- where nobody is due, nobody is busy
+-- if no host is due, none is busy
 pub nobody_busy : (due : ℕ → Bool) (hosts : List ℕ) (host : ℕ) → count_by due hosts ≡ 0 → find due hosts ≡ Some host → ⊥
 nobody_busy due hosts host none is =
     let nobody : find due hosts ≡ None = find_none due hosts (nil_from_length (filter due hosts) (length-filter due hosts ∙ none)) in

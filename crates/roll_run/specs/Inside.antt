@@ -1,4 +1,4 @@
--- What only the proofs need: how far a run has come.
+-- For the proofs only: the progress of a run.
 use Rattle.std.specs.Prelude.{◌≡◌, ℕ, ◌<◌, ◌⊎◌, Bool, true, false, Option, Some, None, List, [], ◌∷◌, ◌++◌, length, Result, Ok, Err}
 use Rattle.std.specs.List.{list_all}
 use Rattle.domains.specs.FleetViews.{FleetView}
@@ -45,20 +45,20 @@ opens closed = false
 abbrev pub setting_by : Columns → KernelView → Setting
 setting_by columns kernel = setting_of kernel.fleet (roll_of kernel) columns
 
--- the same roll, with more events
+-- the same run, with more events
 abbrev pub grown : KernelView → List Event → KernelView
 grown kernel more = record kernel { log = kernel.log ++ more }
 
--- the same roll, at another place of its log
+-- the same run, at another point of its log
 pub record IsSameRoll {R : Type 0} (old new : BoardView R) : Type 0 where
   pub kernel : new.kernel ≡ record old.kernel { log = new.kernel.log }
   pub context : new.context ≡ old.context
 
--- whom the statuses say that is to be set aside
+-- the hosts that are to be held, given the statuses
 abbrev pub aside_in : KernelView → List ℕ
 aside_in kernel = aside_by kernel.play.on_blocked kernel.fleet (state_of kernel).statuses
 
--- the run has set out for its next boundary: so far nothing was done, or the hosts were set aside
+-- the run is on the way to its next boundary: nothing was done so far, or the hosts were held
 pub record HasSetOut {R : Type 0} (old new : BoardView R) : Type 0 where
   pub more : List Event
   pub begun : (more ≡ []) ⊎ (more ≡ setting_aside (aside_in old.kernel))
@@ -66,7 +66,7 @@ pub record HasSetOut {R : Type 0} (old new : BoardView R) : Type 0 where
   pub context : new.context ≡ old.context
   pub tallies : new.tallies ≡ old.tallies
 
--- these hosts were set aside, if there are any
+-- these hosts were held, if there are any
 pub record HasSetAside {R : Type 0} (hosts : List ℕ) (old new : BoardView R) : Type 0 where
   pub kernel : new.kernel ≡ grown old.kernel (setting_aside hosts)
   pub context : new.context ≡ old.context
@@ -82,7 +82,7 @@ pub record HasWorked {R : Type 0} (old new : BoardView R) : Type 0 where
   pub kernel : new.kernel ≡ grown old.kernel more
   pub context : new.context ≡ old.context
 
--- what is told of a batch that has passed a step: it is at the next one, or over
+-- what is reported about a batch that has passed a step: it is at the next one, or has ended
 abbrev pub GoesTo : Next → Phase → Type 0
 GoesTo Step phase = is_working phase ≡ true
 GoesTo BatchEnd phase = is_over phase ≡ true
@@ -94,13 +94,13 @@ pub record HasPassedStep {R : Type 0} (old : BoardView R) (passed : Next × Boar
   pub goes : GoesTo passed.0 (state_of passed.1.kernel).phase
   pub tallies : passed.1.tallies ≡ 0
 
--- and is over
+-- the batch was worked on, and has ended
 pub record IsWorkedOff {R : Type 0} (old new : BoardView R) : Type 0 where
   pub worked : HasWorked old new
   pub over : is_over (state_of new.kernel).phase ≡ true
   pub tallies : new.tallies ≡ 0
 
--- the batch was opened, and is over
+-- the batch was opened, and has ended
 pub record HasRun {R : Type 0} (batch : List ℕ) (old new : BoardView R) : Type 0 where
   pub more : List Event
   pub inside : list_all is_inside more ≡ true
@@ -118,27 +118,28 @@ pub record HasBroken {R : Type 0} (batch : List ℕ) (old new : BoardView R) : T
   pub kernel : new.kernel ≡ grown old.kernel more
   pub context : new.context ≡ old.context
 
--- where programs end as the columns say, the play came to these boundaries, whose batches are over; the last of them ended it as told, if it did
+-- if programs end as the columns specify, the play reached these boundaries, whose batches have ended; the last of them ended it as given,
+-- if it did
 pub record HasCome (columns : Columns) (kernel : KernelView) (behind : List Boundary) (before : Option End) : Type 0 where
   pub course : IsCourse (setting_by columns kernel) kernel.start behind None
   pub before_is : before ≡ ended_by (setting_by columns kernel) None behind
   pub statuses : (state_of kernel).statuses ≡ led_to (setting_by columns kernel) kernel.start behind
   pub rows : (host : ℕ) → (state_of kernel).rows host ≡ rows_behind (roll_of kernel) columns host [] behind
 
--- no batch is open, and so far the play has come for all columns that the log tells
+-- no batch is open, and the play has come this far for all columns that the log records
 pub record IsBetween (kernel : KernelView) (behind : List Boundary) (before : Option End) : Type 0 where
   pub phase : (state_of kernel).phase ≡ between
   pub events : boundary_events kernel.log ≡ events_at_each behind
   pub come : (columns : Columns) → Tells columns (roll_of kernel) kernel.log → HasCome columns kernel behind before
 
--- and has come to its next boundary
+-- the play has also reached its next boundary
 pub record HasComeTo (columns : Columns) (kernel : KernelView) (behind : List Boundary) (boundary : Boundary) (before : Option End) : Type 0 where
   pub course : IsCourse (setting_by columns kernel) kernel.start behind None
   pub before_is : before ≡ ended_by (setting_by columns kernel) None behind
   pub here : IsBoundary (setting_by columns kernel) (length behind) (led_to (setting_by columns kernel) kernel.start behind) boundary
   pub rows : (host : ℕ) → (state_of kernel).rows host ≡ rows_behind (roll_of kernel) columns host [] behind
 
--- whose hosts were set aside
+-- its hosts were held
 pub record IsAt (kernel : KernelView) (behind : List Boundary) (boundary : Boundary) (before : Option End) : Type 0 where
   pub phase : (state_of kernel).phase ≡ between
   pub events : boundary_events kernel.log ≡ events_at_each behind ++ aside_at boundary
@@ -147,7 +148,7 @@ pub record IsAt (kernel : KernelView) (behind : List Boundary) (boundary : Bound
   pub best : IsBest kernel.fleet boundary.statuses.items bound boundary.answer
   pub come : (columns : Columns) → Tells columns (roll_of kernel) kernel.log → HasComeTo columns kernel behind boundary before
 
--- the last boundary is the present one
+-- the last boundary is the current one
 pub record IsNoted (kernel : KernelView) (boundaries : List Boundary) (before : Option End) : Type 0 where
   pub behind : List Boundary
   pub boundary : Boundary
@@ -159,76 +160,76 @@ pub record IsEnded (kernel : KernelView) (boundaries : List Boundary) (end : End
   pub phase : (state_of kernel).phase ≡ between
   pub by : (columns : Columns) → Tells columns (roll_of kernel) kernel.log → TookItsCourse kernel.fleet (roll_of kernel) columns boundaries kernel.log (state_of kernel).statuses end
 
--- the play was on its course
+-- the play matched its forecast so far
 abbrev pub IsOnCourse : KernelView → List Boundary → Type 0
 IsOnCourse kernel boundaries =
     (columns : Columns) → Tells columns (roll_of kernel) kernel.log → WasOnCourse kernel.fleet (roll_of kernel) columns boundaries kernel.log
 
--- what is told of where it was broken off is so
+-- the reported interruption is true
 pub record IsBroken (boundaries : List Boundary) (kernel : KernelView) (why : Break) : Type 0 where
   pub why_is : IsBreakIn kernel.forks (state_of kernel) why
   pub asked : IsAskedAt boundaries kernel.log why
   pub last : IsLastOpened (state_of kernel) boundaries kernel.log
 
--- a batch is behind the play, and the counts are those of the statuses
+-- a batch of the play has ended, and the counts match the statuses
 pub record IsBehind {R : Type 0} (boundaries : List Boundary) (counted : Counted) (board : BoardView R) (before : Option End) : Type 0 where
   pub is_between : IsBetween board.kernel boundaries before
   pub counts : AreCountsOf (state_of board.kernel).statuses counted
   pub tallies : board.tallies ≡ 0
 
--- what a turn came to
+-- the outcome of a turn
 abbrev pub HasTurned : {R : Type 0} → List Boundary → Counted → BoardView R → Turn → Type 0
 HasTurned boundaries counted board (Behind before) = IsBehind boundaries counted board before
 HasTurned boundaries counted board (Ended end) = IsEnded board.kernel boundaries end
 HasTurned boundaries counted board (Broken why) = IsOnCourse board.kernel boundaries × IsBroken boundaries board.kernel why
 
--- who asks for the end may ask, and who refuses a batch may refuse
+-- the stop control can request the end, and the recorder can refuse a batch, only if they are permitted to
 abbrev pub MayTurn : Bool → Bool → Turn → Type 0
 MayTurn asks refuses (Behind before) = Unit {0}
 MayTurn asks refuses (Ended end) = Unit {0}
 MayTurn asks refuses (Broken why) = MayBreak asks refuses why
 
--- the log has grown, and the keeper kept what there is to keep of that, and nothing else
+-- the log has grown, and the recorder received exactly the entries for that
 pub record KeepsUp {K : Type 0} (keeps : K → K → FleetView → JournalEntry → Type 0) (old new : KernelView) (before after : K) : Type 0 where
   pub more : List Event
   pub kernel : new ≡ grown old more
   pub kept : HasKept keeps old.fleet before after (entries (roll_of old) old.log (state_of old) more)
 
--- and at most one entry more
+-- the same, with at most one more entry
 pub record KeepsAhead {K : Type 0} (keeps : K → K → FleetView → JournalEntry → Type 0) (old new : KernelView) (before after : K) : Type 0 where
   pub mid : K
   pub up : KeepsUp keeps old new before mid
   pub ahead : IsAhead keeps old.fleet mid after
 
--- so it is behind a turn: only where the play was broken off may there be an entry more
+-- likewise after a turn: only if the play was interrupted can there be one more entry
 abbrev pub KeepsTurn : {K : Type 0} → (K → K → FleetView → JournalEntry → Type 0) → KernelView → KernelView → K → K → Turn → Type 0
 KeepsTurn keeps old new before after (Behind end) = KeepsUp keeps old new before after
 KeepsTurn keeps old new before after (Ended end) = KeepsUp keeps old new before after
 KeepsTurn keeps old new before after (Broken why) = KeepsAhead keeps old new before after
 
--- what all turns came to
+-- the outcome of all turns
 abbrev pub HasGone : List Boundary → KernelView → Result End Break → Type 0
 HasGone boundaries kernel (Ok end) = IsEnded kernel boundaries end
 HasGone boundaries kernel (Err why) = IsOnCourse kernel boundaries × IsBroken boundaries kernel why
 
--- a plan may be made of the statuses that a run left, and it left the variables of each host
+-- a plan can be made from the statuses that a run left, and it left the variables of each host
 pub record IsReadyRun (fleet : FleetView) (run : Run) : Type 0 where
   pub ready : IsReady fleet run.statuses.items
   pub each : length run.vars.items ≡ length fleet.hosts
 
--- a run stands behind those that were done before it, and behind it those of the plays after it, whose logs these are
+-- a run follows those done before it, and is followed by those of the plays after it, which have these logs
 pub record HasRunAfter (may : Work → Ending → Type 0) (fleet : FleetView) (forks : ℕ) (plays : List Play) (before : Run) (old new : List Run) (logs : List (List Event)) : Type 0 where
   pub rest : List Run
   pub items : new ≡ old ++ before ∷ rest
   pub runs : AreRunsAfter may fleet forks plays before rest logs
 
--- the same, of which a fault broke the last one off
+-- likewise, with the last of them interrupted
 pub record HasBrokenAfter (may : Work → Ending → Type 0) (fleet : FleetView) (forks : ℕ) (plays : List Play) (before : Run) (old new : List Run) (last : RunFault) (logs : List (List Event)) : Type 0 where
   pub rest : List Run
   pub items : new ≡ old ++ before ∷ rest
   pub broken : AreBrokenAfter may fleet forks plays before rest last logs
 
--- a play may follow one that ended so
+-- a play may follow one that ended this way
 abbrev pub is_finished : End → Bool
 is_finished Finished = true
 is_finished Held = false

@@ -1,4 +1,4 @@
--- What a journal holds of a run: a function of its log.
+-- What a journal records of a run: a function of its log.
 use Rattle.std.specs.Prelude.{◌≡◌, ◌⊎◌, ℕ, Option, Some, None, List, [], ◌∷◌, ◌++◌, map}
 use Rattle.domains.specs.FleetViews.{FleetView}
 use Rattle.fleet_states.specs.declared.status.Status.{Status}
@@ -10,8 +10,8 @@ use Rattle.event_log.specs.States.{State, start_state}
 use Rattle.event_log.specs.Logs.{IsLegal, next}
 use Rattle.roll_run.specs.declared.run.Run.{Run}
 
--- of so many plays the first is to begin; a play begins with these statuses; hosts are set aside; a batch of these is to open behind these events; it was refused; the batch is over, with these
--- statuses of all hosts; the play has ended so
+-- the first of `n` plays is about to start; a play starts with these statuses; hosts are held; a batch of these hosts is to open after
+-- these events; it was refused; the batch has ended, with these statuses of all hosts; the play has ended this way
 pub data JournalEntry : Type 0 where
   heading : ℕ → JournalEntry
   beginning : List Status → JournalEntry
@@ -21,7 +21,7 @@ pub data JournalEntry : Type 0 where
   closing : List ℕ → List Status → JournalEntry
   ended : End → JournalEntry
 
--- what there is to keep of an event behind these
+-- what is recorded of an event after these
 abbrev pub entries_at : Roll → List Event → State → Event → List JournalEntry
 entries_at roll behind state (set_aside hosts) = aside hosts ∷ []
 entries_at roll behind state (opened batch) = opening behind batch ∷ []
@@ -30,30 +30,30 @@ entries_at roll behind state (reported host step ending) = []
 entries_at roll behind state (passed step) = []
 entries_at roll behind state closed = closing state.batch (next roll state closed).statuses ∷ []
 
--- and of a log that goes on behind these, from this state
+-- what is recorded of a log that continues after these events, from this state
 abbrev pub entries : Roll → List Event → State → List Event → List JournalEntry
 entries roll behind state [] = []
 entries roll behind state (event ∷ log) = entries_at roll behind state event ++ entries roll (behind ++ event ∷ []) (next roll state event) log
 
--- how the play has ended, where it has
+-- how the play has ended, if it has
 abbrev pub end_entries : Option End → List JournalEntry
 end_entries None = []
 end_entries (Some end) = ended end ∷ []
 
--- and of a play with this log, which has ended so, or was broken off
+-- the entries of a play with this log that has ended this way, or was interrupted
 abbrev pub play_entries : Roll → List Event → Option End → List JournalEntry
 play_entries roll log end = beginning roll.start ∷ (entries roll [] (start_state roll) log ++ end_entries end)
 
--- from one moment to another a keeper kept these, one after the other, and nothing else
+-- between two states, a recorder received exactly these, in sequence
 abbrev pub HasKept : {K : Type 0} → (K → K → FleetView → JournalEntry → Type 0) → FleetView → K → K → List JournalEntry → Type 0
 HasKept keeps fleet before after [] = after ≡ before
 HasKept {K} keeps fleet before after (first ∷ later) = (mid : K) × keeps before mid fleet first × HasKept keeps fleet mid after later
 
--- at most one entry more: of a batch that was to open, and was refused or not opened
+-- at most one more entry: of a batch that was to open, and was refused or not opened
 abbrev pub IsAhead : {K : Type 0} → (K → K → FleetView → JournalEntry → Type 0) → FleetView → K → K → Type 0
 IsAhead keeps fleet before after = (after ≡ before) ⊎ ((behind : List Event) × (batch : List ℕ) × (keeps before after fleet (opening behind batch) ⊎ keeps before after fleet (refused behind batch)))
 
--- of plays that ended so, with these logs, the keeper kept the entries, one play behind the other
+-- for plays that ended this way, with these logs, the recorder received the entries, play by play
 abbrev pub AreKept : {K : Type 0} → (K → K → FleetView → JournalEntry → Type 0) → FleetView → K → K → List (Option End) → List (List Event) → Type 0
 AreKept keeps fleet before after [] [] = after ≡ before
 AreKept keeps fleet before after [] (log ∷ logs) = ⊥
@@ -62,7 +62,7 @@ AreKept {K} keeps fleet before after (end ∷ ends) (log ∷ logs) =
     (roll : Roll) × (mid : K) × (roll.groups ≡ groups_of fleet) × IsLegal roll (start_state roll) log × HasKept keeps fleet before mid (play_entries roll log end)
     × AreKept keeps fleet mid after ends logs
 
--- one more play was broken off, or none was begun; and at most one entry more was kept
+-- one more play was interrupted, or none was started; and at most one more entry was received
 pub record AreKeptAhead {K : Type 0} (keeps : K → K → FleetView → JournalEntry → Type 0) (fleet : FleetView) (before after : K) (ends : List End) (logs : List (List Event)) : Type 0 where
   pub broken : List (Option End)
   pub one : (broken ≡ []) ⊎ (broken ≡ None ∷ [])
@@ -74,7 +74,7 @@ pub record AreKeptAhead {K : Type 0} (keeps : K → K → FleetView → JournalE
 abbrev pub ends_of : List Run → List End
 ends_of runs = map (λ (run : Run). run.end) runs
 
--- what was kept of the runs behind one, which stands behind these, as all of them are left; and the same ahead
+-- what was recorded of the runs after one that follows `old`, where `new` is all of them; and likewise with one entry ahead
 pub record IsKeptAfter {K : Type 0} (keeps : K → K → FleetView → JournalEntry → Type 0) (fleet : FleetView) (last : Run) (old new : List Run) (before after : K) (logs : List (List Event)) : Type 0 where
   pub rest : List Run
   pub items : new ≡ old ++ last ∷ rest

@@ -1,4 +1,4 @@
--- What the runs of several plays leave.
+-- The results of the runs of several plays.
 use Rattle.std.specs.Prelude.{◌≡◌, ℕ, ◌⊎◌, List, [], ◌∷◌, length}
 use Rattle.domains.specs.FleetViews.{FleetView}
 use Rattle.fleet_states.specs.declared.status.Status.{Status}
@@ -23,26 +23,26 @@ use Rattle.roll_run.specs.declared.fault.Break.TheVariants.{Fault}
 use Rattle.roll_run.specs.declared.fault.RunFault.{RunFault}
 use Rattle.roll_run.specs.declared.start.Start.{Start}
 
--- a play may begin so: each host has a status and variables, nobody runs, and no group is over its limit
+-- a play may start this way: each host has a status and variables, no host is running, and no group exceeds its limit
 pub record MayStart (fleet : FleetView) (start : Start) : Type 0 where
   pub ready : IsReady fleet start.statuses.items
   pub each : length start.vars.items ≡ length fleet.hosts
 
--- of each host the same variables and results
+-- each host has the same variables and results
 abbrev pub AreSameHosts : List Vars → List Vars → Type 0
 AreSameHosts [] [] = Unit {0}
 AreSameHosts [] (other ∷ others) = ⊥
 AreSameHosts (one ∷ ones) [] = ⊥
 AreSameHosts (one ∷ ones) (other ∷ others) = IsSameHost one other × AreSameHosts ones others
 
--- the roll of a play after a run of another: who failed, was halted or is off stays so; of the others those wait whom the play is for; and of each host is known
--- what it had registered
+-- the inputs of a play's run after a run of another: hosts that failed, were halted or are off keep their status; of the others, those the
+-- play is for wait; and each host has what it had registered
 pub record IsRollAfter (fleet : FleetView) (play : Play) (forks : ℕ) (before : Run) (roll : Roll) : Type 0 where
   pub vars : List Vars
   pub same : AreSameHosts vars before.vars.items
   pub roll_is : roll ≡ roll_by fleet play forks (restart_statuses before.statuses.items (targets fleet play)) vars
 
--- these are the logs of one run, which came to its end
+-- these are the logs of one run that has ended
 pub record IsRunOf (may : Work → Ending → Type 0) (fleet : FleetView) (roll : Roll) (run : Run) (logs : List (List Event)) : Type 0 where
   pub log : List Event
   pub logs_are : logs ≡ log ∷ []
@@ -54,7 +54,8 @@ pub record IsRunAfter (may : Work → Ending → Type 0) (fleet : FleetView) (pl
   pub begins : IsRollAfter fleet play forks before roll
   pub run_is : IsRun may fleet roll run log
 
--- the runs of the plays after one, and their logs: each play has its run while the one before it finished, and the first that ends otherwise is the last
+-- the runs of the plays after one, and their logs: each play has its run if the one before it finished, and the first that ends otherwise
+-- is the last
 abbrev pub AreRunsAfter : (Work → Ending → Type 0) → FleetView → ℕ → List Play → Run → List Run → List (List Event) → Type 0
 AreRunsAfter may fleet forks [] before runs logs = (logs ≡ []) × (runs ≡ [])
 AreRunsAfter may fleet forks (play ∷ plays) before [] logs = (logs ≡ []) × (before.end ≡ Finished → ⊥)
@@ -62,7 +63,7 @@ AreRunsAfter may fleet forks (play ∷ plays) before (run ∷ rest) [] = ⊥
 AreRunsAfter may fleet forks (play ∷ plays) before (run ∷ rest) (log ∷ logs) =
     (before.end ≡ Finished) × IsRunAfter may fleet play forks before run log × AreRunsAfter may fleet forks plays run rest logs
 
--- the runs of a file of plays, the first of which begins with these statuses and variables, and their logs
+-- the runs of a file of plays, the first of which starts with these statuses and variables, and their logs
 pub record AreRuns (may : Work → Ending → Type 0) (fleet : FleetView) (forks : ℕ) (plays : List Play) (statuses : List Status) (vars : List Vars) (runs : List Run) (logs : List (List Event)) : Type 0 where
   pub first : Play
   pub later : List Play
@@ -76,7 +77,7 @@ pub record AreRuns (may : Work → Ending → Type 0) (fleet : FleetView) (forks
   pub is_first : IsRun may fleet (roll_by fleet first forks statuses vars) run log
   pub follow : AreRunsAfter may fleet forks later run rest others
 
--- a play was to begin with these statuses, and memory was wanting before it had a board: it has no log
+-- a play was to start with these statuses, and memory ran out before it had a board: it has no log
 pub record IsNotBegun (statuses : List Status) (fault : RunFault) (logs : List (List Event)) : Type 0 where
   pub none : logs ≡ []
   pub why : fault.why ≡ Fault Mem
@@ -85,23 +86,23 @@ pub record IsNotBegun (statuses : List Status) (fault : RunFault) (logs : List (
   pub statuses_are : fault.statuses.items ≡ statuses
   pub counts : fault.counts.items ≡ []
 
--- a run was broken off that has this one log
+-- an interrupted run that has this one log
 pub record IsOneBrokenOff (may : Work → Ending → Type 0) (fleet : FleetView) (roll : Roll) (fault : RunFault) (logs : List (List Event)) : Type 0 where
   pub log : List Event
   pub logs_are : logs ≡ log ∷ []
   pub broken : IsBrokenOff may fleet roll fault log
 
--- the same, or it had no board yet
+-- likewise, or it had no board yet
 abbrev pub IsBrokenOrNotBegun : (Work → Ending → Type 0) → FleetView → Roll → RunFault → List (List Event) → Type 0
 IsBrokenOrNotBegun may fleet roll fault logs = IsOneBrokenOff may fleet roll fault logs ⊎ IsNotBegun roll.start fault logs
 
--- the run of a play after a run of another was broken off
+-- the run of a play after a run of another was interrupted
 pub record IsBrokenAfter (may : Work → Ending → Type 0) (fleet : FleetView) (play : Play) (forks : ℕ) (before : Run) (fault : RunFault) (logs : List (List Event)) : Type 0 where
   pub roll : Roll
   pub begins : IsRollAfter fleet play forks before roll
   pub broken : IsBrokenOrNotBegun may fleet roll fault logs
 
--- of the plays after one, so many had their runs, each finished, and the next one was broken off, or not begun
+-- some of the plays after one had their runs, each finished, and the next one was interrupted or not started
 abbrev pub AreBrokenAfter : (Work → Ending → Type 0) → FleetView → ℕ → List Play → Run → List Run → RunFault → List (List Event) → Type 0
 AreBrokenAfter may fleet forks [] before done last logs = ⊥
 AreBrokenAfter may fleet forks (play ∷ plays) before [] last logs =
@@ -117,15 +118,15 @@ AreBrokenOff may fleet forks first later statuses vars (run ∷ rest) last [] = 
 AreBrokenOff may fleet forks first later statuses vars (run ∷ rest) last (log ∷ logs) =
     IsRun may fleet (roll_by fleet first forks statuses vars) run log × AreBrokenAfter may fleet forks later run rest last logs
 
--- the runs of a file of plays that a fault broke off, and their logs
+-- the interrupted runs of a file of plays, and their logs
 pub record AreBroken (may : Work → Ending → Type 0) (fleet : FleetView) (forks : ℕ) (plays : List Play) (statuses : List Status) (vars : List Vars) (done : List Run) (last : RunFault) (logs : List (List Event)) : Type 0 where
   pub first : Play
   pub later : List Play
   pub plays_are : plays ≡ first ∷ later
   pub broken : AreBrokenOff may fleet forks first later statuses vars done last logs
 
--- the roll of a play behind one with this log, which is over: who failed, was halted or is off stays so; of the others those wait whom the play is for; and of
--- each host is known what it had registered
+-- the inputs of a play's run after one with this log, which has ended: hosts that failed, were halted or are off keep their status; of the
+-- others, those the play is for wait; and each host has what it had registered
 pub record Follows (fleet : FleetView) (play : Play) (forks : ℕ) (before : Roll) (log : List Event) (roll : Roll) : Type 0 where
   pub over : (end_state before log).phase ≡ between
   pub left : List Vars
@@ -134,14 +135,15 @@ pub record Follows (fleet : FleetView) (play : Play) (forks : ℕ) (before : Rol
   pub same : AreSameHosts vars left
   pub roll_is : roll ≡ roll_by fleet play forks (restart_statuses (end_state before log).statuses (targets fleet play)) vars
 
--- behind a roll with this log these are the logs of rolls of the first of these plays, one of each, in their order; each is safe
+-- after a run with this log, these are the logs of runs of the first of these plays, one each, in order, and all are safe
 abbrev pub AreSafeAfter : (Work → Ending → Type 0) → FleetView → ℕ → List Play → Roll → List Event → List (List Event) → Type 0
 AreSafeAfter may fleet forks plays before last [] = Unit {0}
 AreSafeAfter may fleet forks [] before last (log ∷ logs) = ⊥
 AreSafeAfter may fleet forks (play ∷ plays) before last (log ∷ logs) =
     (roll : Roll) × Follows fleet play forks before last roll × IsSafeLog may roll log × AreSafeAfter may fleet forks plays roll log logs
 
--- the same from the first play on, which begins with these statuses and variables: at no moment of any of the rolls is a group over its limit
+-- likewise from the first play on, which starts with these statuses and variables: no group exceeds its limit at any point of any of the
+-- runs
 abbrev pub AreSafeRolls : (Work → Ending → Type 0) → FleetView → ℕ → List Play → List Status → List Vars → List (List Event) → Type 0
 AreSafeRolls may fleet forks plays statuses vars [] = Unit {0}
 AreSafeRolls may fleet forks [] statuses vars (log ∷ logs) = ⊥

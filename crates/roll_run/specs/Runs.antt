@@ -1,4 +1,4 @@
--- What a run of a play leaves: it took the course that its hosts by themselves say.
+-- The result of a run of a play: it matched the forecast for its hosts.
 use Rattle.std.specs.Prelude.{◌≡◌, ℕ, ◌+◌, ◌≤◌, ◌<◌, ◌⊎◌, Bool, true, false, cond, Option, Some, None, List, [], ◌∷◌, ◌++◌, filter, flat_map, length, slice_index_or}
 use Rattle.fleet_index.specs.NumberLists.{has_number}
 use Rattle.domains.specs.FleetViews.{FleetView}
@@ -32,12 +32,12 @@ use Rattle.roll_run.specs.declared.fault.Break.{Break}
 use Rattle.roll_run.specs.declared.fault.Break.TheVariants.{Asked, Fault, Unkept}
 use Rattle.roll_run.specs.declared.fault.RunFault.{RunFault}
 
--- the roll of a play over a fleet, with so many workers, from these statuses and variables
+-- the inputs of a run of a play over a fleet, with this many workers, from these statuses and variables
 abbrev pub roll_by : FleetView → Play → ℕ → List Status → List Vars → Roll
 roll_by fleet play forks statuses vars =
     record { groups = groups_of fleet; play = play; forks = forks; start = statuses; known = known_at vars }
 
--- what the course of a roll depends on, where the programs of its hosts end as the columns say: how many run at once is not part of it
+-- what the forecast of a run depends on, if the programs of its hosts end as the columns specify; how many run at once is not part of it
 abbrev pub setting_of : FleetView → Roll → Columns → Setting
 setting_of fleet roll columns = record {
   fleet = fleet;
@@ -61,7 +61,7 @@ batch_in closed = []
 abbrev pub batches_in : List Event → List (List ℕ)
 batches_in log = flat_map batch_in log
 
--- the event stands at a boundary: hosts are set aside there, or a batch is opened
+-- the event is at a boundary: hosts are held there, or a batch is opened
 abbrev pub is_at_boundary : Event → Bool
 is_at_boundary (set_aside hosts) = true
 is_at_boundary (opened batch) = true
@@ -70,16 +70,16 @@ is_at_boundary (reported host step ending) = false
 is_at_boundary (passed step) = false
 is_at_boundary closed = false
 
--- what a log tells of its boundaries, in order
+-- what a log records of its boundaries, in order
 abbrev pub boundary_events : List Event → List Event
 boundary_events log = filter is_at_boundary log
 
--- these hosts are set aside, if there are any
+-- these hosts are held, if there are any
 abbrev pub setting_aside : List ℕ → List Event
 setting_aside [] = []
 setting_aside (host ∷ hosts) = set_aside (host ∷ hosts) ∷ []
 
--- the hosts of a boundary are set aside
+-- the hosts of a boundary are held
 abbrev pub aside_at : Boundary → List Event
 aside_at boundary = setting_aside (host_numbers boundary.held.items)
 
@@ -87,36 +87,37 @@ aside_at boundary = setting_aside (host_numbers boundary.held.items)
 abbrev pub events_at : Boundary → List Event
 events_at boundary = aside_at boundary ++ opened (next_batch boundary.answer) ∷ []
 
--- the same at each of these boundaries
+-- likewise at each of these boundaries
 abbrev pub events_at_each : List Boundary → List Event
 events_at_each boundaries = flat_map events_at boundaries
 
--- the rows of a host of this batch once that is over: its own track, as far as the batch came
+-- the rows of a host of this batch after its end: the host's own track, as far as the batch went
 abbrev pub rows_of : Roll → Columns → List ℕ → ℕ → List Entry
 rows_of roll columns batch host =
     track roll.play (roll.known host) (columns host) (steps_until roll (halt_by roll columns batch))
 
--- the rows of a host behind these boundaries, which had the given ones before them: where it stood in a batch, those of that batch
+-- the rows of a host after these boundaries, with these rows before them: if it was in a batch, the rows of that batch
 abbrev pub rows_behind : Roll → Columns → ℕ → List Entry → List Boundary → List Entry
 rows_behind roll columns host before [] = before
 rows_behind roll columns host before (boundary ∷ rest) =
     rows_behind roll columns host (cond (has_number host (next_batch boundary.answer)) (rows_of roll columns (next_batch boundary.answer) host) before) rest
 
--- of each host how its rows are judged; a list that ends before a host says that it has none
+-- how the rows of each host are judged; a host past the end of the list has none
 abbrev pub AreCounted : Roll → State → List Counts → Type 0
 AreCounted roll state counts =
     (host : ℕ) → host < length roll.start → slice_index_or counts host (counts_in []) ≡ counts_in (state.rows host)
 
--- the log is legal; at no moment of it is a group over its limit, and nobody runs while no batch is open; and what it tells of programs may be told of them
+-- the log is legal; at no point of it does a group exceed its limit, and no host is running while no batch is open; and it records about
+-- programs only what may be reported
 pub record IsSafeLog (may : Work → Ending → Type 0) (roll : Roll) (log : List Event) : Type 0 where
   pub legal : IsLegal roll (start_state roll) log
   pub safe : FrontsAreSafe roll log
   pub rests : RestsAtBoundaries roll log
   pub told : AreTold may roll (start_state roll) log
 
--- the boundaries and the end are those of the play's course where each program ends as the columns say; a batch was opened at each boundary but the last,
--- the first one of its plan; the hosts of each boundary were set aside at it, before its batch, and no others ever; the statuses are those of the last
--- boundary; and the rows of each host are those of its own track
+-- the boundaries and the end are those of the play's forecast, if each program ends as the columns specify; each boundary except the last
+-- opened a batch, the first of its plan; the hosts of each boundary were held at it, before its batch, and no others; the statuses are
+-- those of the last boundary; and the rows of each host are those of its own track
 pub record TookItsCourse (fleet : FleetView) (roll : Roll) (columns : Columns) (boundaries : List Boundary) (log : List Event) (statuses : List Status) (end : End) : Type 0 where
   pub course : IsCourse (setting_of fleet roll columns) roll.start boundaries (Some end)
   pub behind : List Boundary
@@ -127,7 +128,7 @@ pub record TookItsCourse (fleet : FleetView) (roll : Roll) (columns : Columns) (
   pub statuses_are : statuses ≡ last.statuses.items
   pub rows : (host : ℕ) → (end_state roll log).rows host ≡ rows_behind roll columns host [] behind
 
--- what a run with this log leaves that came to its end: no batch is open
+-- the result of a run with this log that has ended: no batch is open
 pub record IsRun (may : Work → Ending → Type 0) (fleet : FleetView) (roll : Roll) (run : Run) (log : List Event) : Type 0 where
   pub is_safe : IsSafeLog may roll log
   pub over : (end_state roll log).phase ≡ between
@@ -138,14 +139,14 @@ pub record IsRun (may : Work → Ending → Type 0) (fleet : FleetView) (roll : 
   pub by : (columns : Columns) → Tells columns roll log
       → TookItsCourse fleet roll columns run.boundaries.items log run.statuses.items run.end
 
--- whom a run set aside at the boundary at which it was broken off: the hosts of that boundary; where it isn't planned yet, nobody, or those whom the statuses
--- say
+-- the hosts a run held at the boundary where it was interrupted: those of that boundary; if it isn't planned yet, none, or those the
+-- statuses determine
 abbrev pub IsBegun : Setting → List Status → List Boundary → List Event → Type 0
 IsBegun setting statuses [] begun = (begun ≡ []) ⊎ (begun ≡ setting_aside (aside_by setting.mode setting.fleet statuses))
 IsBegun setting statuses (boundary ∷ more) begun = begun ≡ aside_at boundary
 
--- the boundaries begin the play's course, which goes on behind them; a batch was opened at each, the first one of its plan, but for the last where none was;
--- the hosts of each were set aside at it, before its batch, and no others but those of the boundary that was broken off
+-- the boundaries start the play's forecast, which continues after them; each opened a batch, the first of its plan, except possibly the
+-- last; the hosts of each were held at it, before its batch, and no others except those of the interrupted boundary
 pub record WasOnCourse (fleet : FleetView) (roll : Roll) (columns : Columns) (boundaries : List Boundary) (log : List Event) : Type 0 where
   pub course : IsCourse (setting_of fleet roll columns) roll.start boundaries None
   pub behind : List Boundary
@@ -157,35 +158,36 @@ pub record WasOnCourse (fleet : FleetView) (roll : Roll) (columns : Columns) (bo
   pub events : boundary_events log ≡ events_at_each behind ++ begun
   pub is_begun : IsBegun (setting_of fleet roll columns) (led_to (setting_of fleet roll columns) roll.start behind) rest begun
 
--- what the fault says is so in the state: a worker that is named is one of so many, and a claim is out; so it is where a report is missing
+-- the error is true in the state: a reported worker's index is within range, and a claim is out; a claim is also out if a report is missing
 abbrev pub IsFaultIn : ℕ → State → StepFault → Type 0
 IsFaultIn forks state Mem = Unit {0}
 IsFaultIn forks state (WorkerMem at) = (at < forks) × (0 < length state.out)
 IsFaultIn forks state Mixed = 0 < length state.out
 
--- what is told of a run that was broken off is so in the state: where it was asked to end, or its keeper refused a batch, none is open
+-- what is reported about the interruption is true in the state: if the run was asked to end, or its recorder refused a batch, no batch is
+-- open
 abbrev pub IsBreakIn : ℕ → State → Break → Type 0
 IsBreakIn forks state (Fault why) = IsFaultIn forks state why
 IsBreakIn forks state Asked = state.phase ≡ between
 IsBreakIn forks state Unkept = state.phase ≡ between
 
--- where it was asked to end, or its keeper refused a batch, it stands at its last boundary, whose batch was not opened
+-- if it was asked to end, or its recorder refused a batch, it is at its last boundary, whose batch was not opened
 abbrev pub IsAskedAt : List Boundary → List Event → Break → Type 0
 IsAskedAt boundaries log (Fault why) = Unit {0}
 IsAskedAt boundaries log Asked = length boundaries ≡ length (batches_in log) + 1
 IsAskedAt boundaries log Unkept = length boundaries ≡ length (batches_in log) + 1
 
--- a run is asked to end only by one who may ask, and a batch is refused only by a keeper that may refuse
+-- only a stop control that can request the end ends a run, and only a recorder that can refuse a batch refuses one
 abbrev pub MayBreak : Bool → Bool → Break → Type 0
 MayBreak asks refuses (Fault why) = Unit {0}
 MayBreak asks refuses Asked = asks ≡ true
 MayBreak asks refuses Unkept = refuses ≡ true
 
--- where a batch is open, each boundary has opened its batch: none was noted behind it
+-- if a batch is open, each boundary has opened its batch: none was added after it
 abbrev pub IsLastOpened : State → List Boundary → List Event → Type 0
 IsLastOpened state boundaries log = (state.phase ≡ between) ⊎ (length boundaries ≡ length (batches_in log))
 
--- what a run with this log leaves that was broken off
+-- the result of an interrupted run with this log
 pub record IsBrokenOff (may : Work → Ending → Type 0) (fleet : FleetView) (roll : Roll) (fault : RunFault) (log : List Event) : Type 0 where
   pub is_safe : IsSafeLog may roll log
   pub statuses : fault.statuses.items ≡ (end_state roll log).statuses

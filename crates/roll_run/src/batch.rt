@@ -19,7 +19,7 @@ use std::alloc::Global;
 use std::sync::Wait;
 use std::sync::ledger::Ledger;
 
-/// Works on the present step of the open batch, and passes it.
+/// Runs the current step of the open batch, and passes it.
 fn pass_step<'f, 'b, R: Runner, L: Ledger, H: Wait, W: Observer>(
     rt: &H,
     alloc: Global,
@@ -45,7 +45,7 @@ where
     }
 }
 
-/// Works on the steps of the open batch, one after the other, until it is over.
+/// Runs the steps of the open batch in sequence until it has ended.
 fn pass_steps<'f, 'b, R: Runner, L: Ledger, H: Wait, W: Observer>(
     rt: &H,
     alloc: Global,
@@ -73,7 +73,7 @@ where
     unreachable!()
 }
 
-/// Opens a batch, and works on it until it is over. Where it isn't opened, nothing has changed.
+/// Opens a batch and runs it until it has ended. If it isn't opened, nothing has changed.
 fn work_off<'f, 'b, R: Runner, L: Ledger, H: Wait, W: Observer>(
     rt: &H,
     alloc: Global,
@@ -97,8 +97,8 @@ where
     }
 }
 
-/// Opens a batch where whoever attends the run lets it go on and the keeper holds it, and works on it until it is over. Where it isn't opened, nothing has
-/// changed but what is kept.
+/// Opens a batch and runs it until it has ended, if the stop control permits it and the recorder accepts it. If it isn't opened, nothing
+/// has changed except what is recorded.
 pub(crate) fn run_batch<
     'f,
     'b,

@@ -1,4 +1,4 @@
-//! A run comes to a boundary.
+//! A run reaches a boundary.
 ghost use Rattle.std.specs.Prelude.{◌≡◌, ◌<◌, ℕ, Option, List, [], IfErr, IfOk, OnErr, OnOk, length, min};
 ghost use Rattle.domains.specs.Ids.{host_numbers};
 ghost use Rattle.fleet_states.specs.Statuses.{status_at};
@@ -19,7 +19,7 @@ use roll_core::{Board, Observer, Runner};
 use std::alloc::{AllocError, Allocator, Global};
 use std::sync::ledger::Ledger;
 
-/// Counts a host as its status says; a number that no host has is passed over.
+/// Counts a host by its status; a number that no host has is skipped.
 #[tactic(auto, using(crate::proofs::Counting::moved_past))]
 fn record_one<A: Allocator>(domains: &mut Domains<'_, A>, statuses: &[Status], host: HostId)
     requires placed { length domains.old.places ≡ length domains.old.fleet.hosts }
@@ -31,7 +31,7 @@ fn record_one<A: Allocator>(domains: &mut Domains<'_, A>, statuses: &[Status], h
     domains.set(host, place_of(status_of(statuses, host)));
 }
 
-/// Counts these hosts, one after the other, as their statuses say.
+/// Counts these hosts in order by their statuses.
 pub(crate) fn tell<A: Allocator>(
     domains: &mut Domains<'_, A>,
     statuses: &[Status],
@@ -45,7 +45,7 @@ pub(crate) fn tell<A: Allocator>(
     }
 }
 
-/// Sets these hosts aside, counts them so, and has that kept. Want of memory leaves everything as it was.
+/// Holds these hosts, counts them as held, and records that. If an allocation fails, changes nothing.
 fn hold<A: Allocator, R: Runner, L: Ledger, W: Observer, K: Recorder>(
     alloc: Global,
     keeper: &mut K,
@@ -71,7 +71,7 @@ fn hold<A: Allocator, R: Runner, L: Ledger, W: Observer, K: Recorder>(
     }
 }
 
-/// The same, where any are to be set aside.
+/// Likewise, but only if there are hosts to hold.
 fn set_aside<A: Allocator, R: Runner, L: Ledger, W: Observer, K: Recorder>(
     alloc: Global,
     keeper: &mut K,
@@ -92,15 +92,16 @@ fn set_aside<A: Allocator, R: Runner, L: Ledger, W: Observer, K: Recorder>(
     }
 }
 
-/// How many batches were opened, one a boundary. A play has so few hosts that the number fits; past it the last entry of the sizes is in force.
+/// Returns how many batches were opened, one per boundary. A play has few enough hosts for the number to fit; a saturated number is past
+/// all sizes, so the last one applies.
 fn count(boundaries: &[Boundary]) -> u32
     ensures { result ≡ min (length boundaries.now) 4294967295 }
 {
     boundaries.len().min(u32::MAX as usize) as u32
 }
 
-/// Comes to the next boundary: hosts are set aside where they are not to stop the play, and the rest is planned anew over the counts
-/// that stand. Who was set aside is kept. Want of memory adds no boundary.
+/// Moves to the next boundary. Holds hosts if the play holds them instead of stopping, records them, and plans again for the rest over the
+/// current counts. If an allocation fails, adds no boundary.
 pub(crate) fn come_to_boundary<A: Allocator, R: Runner, L: Ledger, W: Observer, K: Recorder>(
     alloc: Global,
     keeper: &mut K,

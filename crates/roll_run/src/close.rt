@@ -1,4 +1,4 @@
-//! A batch is over.
+//! A batch has ended.
 ghost use Rattle.std.specs.Prelude.{◌≡◌, length, true};
 ghost use Rattle.domains.specs.Ids.{host_numbers};
 ghost use Rattle.batch_plan.specs.Places.{told_places};
@@ -21,7 +21,7 @@ use roll_core::{Board, Observer, Runner, halt_of};
 use std::alloc::Allocator;
 use std::sync::ledger::Ledger;
 
-/// Closes a batch that is over, counts its hosts as they are now, has that kept, and tells whether it ended the play, and how.
+/// Closes a batch that has ended, recounts its hosts and records that. Returns how it ended the play, if it did.
 pub(crate) fn close_batch<A: Allocator, R: Runner, L: Ledger, W: Observer, K: Recorder>(
     keeper: &mut K,
     board: &mut Board<'_, R, L, W>,

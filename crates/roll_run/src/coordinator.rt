@@ -1,7 +1,7 @@
-//! Whoever coordinates a run.
+//! The coordinator of a run.
 use std::alloc::Global;
 
-/// Whoever coordinates a run: the system that it waits by and starts programs with, where it takes memory, and who attends it.
+/// The coordinator of a run: the operating system it uses to wait and to start programs, its allocator, and its stop control.
 #[derive(Drop)]
 pub struct Coordinator<'c, H, A> {
     pub rt: &'c H,

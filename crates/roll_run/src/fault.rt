@@ -1,4 +1,4 @@
-//! A run that was broken off.
+//! A run that was interrupted.
 ghost use Rattle.std.specs.Prelude.{◌≡◌, []};
 ghost use Rattle.roll_run.specs.Plays.{IsNotBegun};
 
@@ -9,20 +9,20 @@ use host_track::Counts;
 use play_forecast::Boundary;
 use std::alloc::Global;
 
-/// Why a run was broken off.
+/// Why a run was interrupted.
 #[derive(Clone, Copy, Debug, PartialEq, Eq, Drop)]
 pub enum Break {
-    /// A fault in a step, or want of memory.
+    /// An error in a step, or out of memory.
     Fault(StepFault),
-    /// Whoever attends the run had it end at a boundary.
+    /// The stop control ended it at a boundary.
     Asked,
-    /// The keeper refused the next batch, which was not opened.
+    /// The recorder refused the next batch, which was not opened.
     Unkept,
 }
 
-/// A run that was broken off: why; its boundaries, of which the first `opened` ones opened a batch; of each host its status, and how its rows were
-/// judged. Its log is in the history. The hosts of a batch that is open are down. Where the run had no board yet, it has no log, and the list of
-/// counts is empty: no host has a row then.
+/// A run that was interrupted: why; its boundaries, of which the first `opened` opened a batch; each host's status; and how its rows were
+/// judged. Its log is in the history. The hosts of an open batch are down. If the run had no board yet, it has no log and the list of
+/// counts is empty, since no host has a row.
 #[derive(Drop)]
 pub struct RunFault {
     pub why: Break,
@@ -33,8 +33,8 @@ pub struct RunFault {
 }
 
 impl RunFault {
-    /// Memory was wanting before there was a board: the statuses are those that were known then, which are what the run was to begin with, or, where
-    /// that couldn't be made, what the run before it left.
+    /// Returns the result of a run that ran out of memory before it had a board. The statuses are those the run was to start with. If those
+    /// couldn't be made, they are what the run before it left.
     pub(crate) fn before_a_log(alloc: Global, statuses: Vec<Status>) -> RunFault
         ensures { IsNotBegun statuses.items result [] }
     {
@@ -48,7 +48,7 @@ impl RunFault {
     }
 }
 
-/// A run of several plays that was broken off: the runs of the plays before, each finished, and what the last one came to.
+/// A run of several plays that was interrupted: the runs of the earlier plays, each finished, and the result of the last one.
 #[derive(Drop)]
 pub struct RunsFault {
     pub done: Vec<Run>,
@@ -56,7 +56,7 @@ pub struct RunsFault {
 }
 
 impl RunsFault {
-    /// Memory was wanting before the first play had a board.
+    /// Returns the result if memory ran out, or a worker could not be started, before the first play had a board.
     pub(crate) fn before_a_log(alloc: Global, statuses: Vec<Status>) -> RunsFault
         ensures done { result.done.items ≡ [] }
         ensures last { IsNotBegun statuses.items result.last [] }

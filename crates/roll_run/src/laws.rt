@@ -1,21 +1,22 @@
-//! What holds of every run.
+//! Properties of every run.
 ghost use Rattle.roll_run.specs.Laws.{BrokenRunsAreSafe, NoWorkerAtBoundaries, RunsAreCourses, RunsAreSafe};
 
 use roll_core::Runner;
 
-/// The runs of a file of plays are its courses: each play begins where the run before it ended, and takes the course that its hosts by
-/// themselves say, where its programs end as its own log tells. How the programs of one play end binds those of no other.
+/// The runs of a file of plays match its forecasts. Each play starts where the run before it ended. It follows the forecast for its hosts
+/// if its programs end as its own log records. How the programs of one play end does not restrict any other play.
 pub fn runs_are_courses<R: Runner>(runner: &R)
     ensures { RunsAreCourses (R.may runner.now) }
 {}
 
-/// A run that is broken off while no batch is open was asked to end, or its keeper refused a batch, or memory was wanting, and no worker's.
+/// If a run is interrupted while no batch is open, its workers' programs did not cause it. The run was asked to end, its recorder refused a
+/// batch, memory ran out in the coordinator, or a worker could not be started.
 pub fn no_worker_fails_at_boundaries<R: Runner>(runner: &R)
     ensures { NoWorkerAtBoundaries (R.may runner.now) }
 {}
 
-/// The logs of the runs of a file of plays are those of safe rolls, each behind the one before it: each is legal, and at no moment of any of them is a
-/// group over its limit, however the runs ended.
+/// The logs of the runs of a file of plays are those of safe runs, in sequence, however the runs ended. Each is legal, and no group exceeds
+/// its limit at any point of any of them.
 pub fn runs_are_safe<R: Runner>(runner: &R)
     ensures ended { RunsAreSafe (R.may runner.now) }
     ensures broken { BrokenRunsAreSafe (R.may runner.now) }

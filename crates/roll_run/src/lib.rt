@@ -1,4 +1,4 @@
-//! A run of a play: from boundary to boundary, with the shortest plan at each, until nobody waits or a batch ends the play.
+//! A run of a play: from boundary to boundary, with a shortest plan at each, until no host waits or a batch ends the play.
 #![tactic(auto)]
 
 mod batch;

@@ -1,4 +1,4 @@
-//! What a later play begins with.
+//! What a later play starts with.
 ghost use Rattle.std.specs.Prelude.{◌≡◌, ◌≤◌, ◌++◌, ◌∷◌, ◌<◌, [], IfOk, None, find, length, vec_capacity, vec_len};
 ghost use Rattle.domains.specs.Patterns.{names_nothing};
 ghost use Rattle.batch_plan.specs.Beginnings.{IsReady, restart_statuses};
@@ -24,7 +24,8 @@ fn copy_all(alloc: Global, vars: &[Vars]) -> Result<Vec<Vars>, AllocError>
     Ok(copies)
 }
 
-/// The statuses with which a play begins after a run of another: those wait whom it is for, save who failed, was halted or is off.
+/// Returns the statuses with which a play starts after a run of another. The hosts of its pattern wait, except those that failed, were
+/// halted or are off.
 fn restart_after(
     alloc: Global,
     fleet: &Fleet,
@@ -42,7 +43,7 @@ fn restart_after(
     }
 }
 
-/// What a play begins with after a run of another. Want of memory leaves all as it was.
+/// Returns what a play starts with after a run of another. If an allocation fails, changes nothing.
 pub(crate) fn begin_after(
     alloc: Global,
     fleet: &Fleet,
@@ -60,7 +61,7 @@ pub(crate) fn begin_after(
     Ok(Start { statuses, vars })
 }
 
-/// Puts an item at the end, where there is room.
+/// Appends an item within the capacity.
 pub(crate) fn keep<T: Drop>(items: &mut Vec<T>, item: T)
     requires { vec_len items.old < vec_capacity items.old }
     ensures items { items.new.items ≡ items.old.items ++ item ∷ [] }
@@ -72,7 +73,7 @@ pub(crate) fn keep<T: Drop>(items: &mut Vec<T>, item: T)
     }
 }
 
-/// The same statuses, in room that was taken before.
+/// Copies the statuses into memory that was allocated before.
 pub(crate) fn copy_into(mut room: Vec<Status>, statuses: &[Status]) -> Vec<Status>
     requires empty { room.items ≡ [] }
     requires room { length statuses.now ≤ vec_capacity room }

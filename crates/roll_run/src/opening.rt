@@ -1,4 +1,4 @@
-//! A run begins, and what it leaves.
+//! The start of a run, and its result.
 ghost use Rattle.std.specs.Prelude.{◌≡◌, ◌++◌, ◌∷◌, [], Err, IfErr, IfOk, None, Ok, OnErr, Some, count_by, find, length};
 ghost use Rattle.domains.specs.Patterns.{names_nothing};
 ghost use Rattle.play_forecast.specs.PlayPlans.{parts_of_play, targets};
@@ -34,14 +34,14 @@ fn is_opening(event: &Event) -> bool
     matches!(event, Event::Open(_))
 }
 
-/// How many batches a log opens.
+/// Returns how many batches a log opens.
 fn count_opened(log: &[Event]) -> usize
     ensures { result ≡ count_by (λ event. opens (event_of event)) log.now }
 {
     log.iter().filter(|event| is_opening(event)).count()
 }
 
-/// What is left of a run that came to its end, or that a fault broke off; and the history with its log.
+/// Returns the result of a run that ended or was interrupted, and the history with its log.
 fn leave<R: Runner, L: Ledger, W: Observer>(
     board: Board<'_, R, L, W>,
     boundaries: Vec<Boundary>,
@@ -80,7 +80,7 @@ fn leave<R: Runner, L: Ledger, W: Observer>(
     }
 }
 
-/// How many hosts the play is for. A fleet has so few that the number fits.
+/// Returns how many hosts the play is for. A fleet is small enough for the number to fit.
 fn count_targets(alloc: Global, fleet: &Fleet, play: &Play) -> Result<u32, AllocError>
     requires { find (names_nothing fleet.now) (parts_of_play play.now) ≡ None }
     ensures { IfOk result (λ targeted. targeted ≡ length (targets fleet.now play.now)) }
@@ -91,7 +91,7 @@ fn count_targets(alloc: Global, fleet: &Fleet, play: &Play) -> Result<u32, Alloc
     }
 }
 
-/// Has the end of the play kept, where it has one.
+/// Records the end of the play, if it has ended.
 fn keep_end<K: Recorder>(keeper: &mut K, fleet: &Fleet, gone: &Result<End, Break>)
     ensures ok { IfOk gone.now (λ end. K.keeps keeper.old keeper.new fleet.now (ended end)) }
     ensures err { OnErr gone.now (keeper.new ≡ keeper.old) }
@@ -102,8 +102,8 @@ fn keep_end<K: Recorder>(keeper: &mut K, fleet: &Fleet, gone: &Result<End, Break
     }
 }
 
-/// A run of the play with the workers of a pool, from its beginning on kept. The counts of the fleet stay in an arena of the coordinator's own. Where memory is wanting before there
-/// is a board, the history comes back as it was.
+/// Runs the play on the workers of a pool, and records it from its start on. The counts of the fleet are in the coordinator's own arena. If
+/// memory runs out before there is a board, returns the history unchanged.
 #[allow(clippy::too_many_arguments)]
 pub(crate) fn run_on<
     'f,

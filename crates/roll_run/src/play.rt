@@ -23,10 +23,10 @@ use std::slice;
 use std::sync::Wait;
 use std::thread::Threads;
 
-/// Runs a play on the hosts of its pattern, with `forks` workers, 1 to 64: at each boundary with the shortest plan that there is, and with
-/// that plan's first batch. At no moment is a group over its limit, whatever the programs answer and however many run at once. Want of
-/// memory breaks it off with what it came to, and so does `attend` before a batch; where a worker can't be started, nothing is opened. `watch` is told
-/// of it. The history comes back with its log, where it had a board.
+/// Runs a play on the hosts of its pattern with `forks` workers, 1 to 64. At each boundary it makes a shortest plan and runs that plan's
+/// first batch. No group ever exceeds its limit, whatever the programs return and however many run at once. The run is interrupted if an
+/// allocation fails, or if `attend` stops it before a batch. If a worker can't be started, no batch is opened. `watch` is notified of the
+/// run. Returns the history with the run's log, if it had a board.
 #[allow(clippy::too_many_arguments)]
 pub fn run_play<
     R: Runner,

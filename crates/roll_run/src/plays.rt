@@ -27,7 +27,7 @@ use std::marker::Brand;
 use std::sync::Wait;
 use std::sync::ledger::Blank;
 
-/// A run of a play on the workers of a pool, whose log is put into the history; where memory was wanting before it had one, none is.
+/// Runs a play on the workers of a pool, and adds its log to the history. If memory runs out before it has a log, adds none.
 #[allow(clippy::too_many_arguments)]
 fn run_one<'f, R: Runner, H: Wait, A: StopControl, W: Observer, K: Recorder>(
     coordinator: &Coordinator<'_, H, A>,
@@ -70,15 +70,15 @@ fn run_one<'f, R: Runner, H: Wait, A: StopControl, W: Observer, K: Recorder>(
     }
 }
 
-/// Whether a play may follow one that ended so.
+/// Reports whether a play may follow one that ended this way.
 fn is_finished(end: End) -> bool
     ensures { result ≡ is_finished end }
 {
     matches!(end, End::Finished)
 }
 
-/// Runs the plays after a run, each where the one before it ended, until one ends otherwise than finished, and puts that run and theirs with those that are done.
-/// `room` is for as many statuses as there are hosts, for a play that can't begin. The history has their logs then.
+/// Runs the plays after a run, each where the one before it ended, until one does not end as finished. Adds that run and theirs to those
+/// that are done. `room` has the capacity for one status per host, for a play that can't start. Adds their logs to the history.
 #[allow(clippy::too_many_arguments)]
 fn run_later<'f, R: Runner, H: Wait, A: StopControl, W: Observer, K: Recorder>(
     coordinator: &Coordinator<'_, H, A>,
@@ -156,7 +156,7 @@ fn run_later<'f, R: Runner, H: Wait, A: StopControl, W: Observer, K: Recorder>(
     }
 }
 
-/// Places for so many runs, and room for as many statuses.
+/// Allocates space for this many runs, and for one status per host.
 fn places(alloc: Global, runs: usize, hosts: usize) -> Result<(Vec<Run>, Vec<Status>), AllocError>
     ensures done { IfOk result (λ (done, room). (done.items ≡ []) × (runs ≤ vec_capacity done)) }
     ensures room { IfOk result (λ (done, room). (room.items ≡ []) × (hosts ≤ vec_capacity room)) }
@@ -166,7 +166,7 @@ fn places(alloc: Global, runs: usize, hosts: usize) -> Result<(Vec<Run>, Vec<Sta
     Ok((done, room))
 }
 
-/// Runs the plays, one after the other, on the workers of a pool. The history has their logs then.
+/// Runs the plays in sequence on the workers of a pool. Adds their logs to the history.
 pub(crate) fn run_each<'f, R: Runner, H: Wait, A: StopControl, W: Observer, K: Recorder>(
     coordinator: &Coordinator<'_, H, A>,
     watch: &mut W,

@@ -1,4 +1,4 @@
-//! The plays of a file on a pool of their own.
+//! The plays of a file on their own pool.
 ghost use Rattle.std.specs.Prelude.{◌≡◌, ◌<◌, IfErr, IfOk, Some, length, map};
 ghost use Rattle.roll_run.specs.Histories.{Gains};
 ghost use Rattle.roll_run.specs.Journals.{AreKept, AreKeptAhead, ends_of};
@@ -48,7 +48,7 @@ fn run_with_all<'f, R: Runner, H: Wait, A: StopControl, W: Observer, K: Recorder
     run_each(coordinator, watch, keeper, front, setup, start, history)
 }
 
-/// Starts a worker for each of these ends, and runs the plays. Where one can't be started, nothing is opened.
+/// Starts a worker for each of these ends, and runs the plays. If one can't be started, no batch is opened.
 #[allow(clippy::too_many_arguments)]
 fn with_workers<
     'f,
@@ -115,11 +115,12 @@ fn with_workers<
     )
 }
 
-/// Runs the plays of a setup one after the other, with its workers, who stand throughout: each play as `run_play` does, the first one from this start, each next one where the one before it ended and with the results that were registered before. A play that ends otherwise than finished is the last.
-/// Want of memory breaks the run off, and so does `attend` before a batch: the runs before it come back, with what the last one came to; where a worker
-/// can't be started, nothing is opened. `watch` is told of each play, and `keeper` given what there is to keep of each: the entries of
-/// the logs, and where the run was broken off at most that one batch more was to open. The history comes back with the log of each play that had a board behind those that
-/// it had, in their order, however the runs ended: just these were started.
+/// Runs the plays of a setup in sequence, with one pool of workers, each play as `run_play` does. The first play starts from `start`; each
+/// later one starts where the one before it ended, with all results registered so far. A play that does not end as finished is the last.
+/// The run is interrupted if an allocation fails, or if `attend` stops it before a batch. Then the earlier runs are returned, with the
+/// result of the last one. If a worker can't be started, no batch is opened. `watch` is notified of each play. `keeper` receives the
+/// entries of the logs; after an interruption it can also have received the opening of one more batch. However the runs ended, the history
+/// gains the log of each play that had a board, in order. Exactly these plays were started.
 pub fn run_plays<
     R: Runner,
     H: Threads + Wait + Processes<Started = SystemProcess> + Sync,

@@ -1,4 +1,4 @@
-//! Whoever keeps what becomes of a run.
+//! Recorders of a run.
 ghost use Rattle.std.specs.Prelude.{◌≡◌, Bool, false, true};
 ghost use Rattle.domains.specs.FleetViews.{FleetView};
 ghost use Rattle.domains.specs.Ids.{host_numbers};
@@ -10,34 +10,35 @@ use group_tree::HostId;
 use play_forecast::End;
 use roll_core::{Moment, NoObserver};
 
-/// Keeps what becomes of the hosts of a run, at its boundaries, so that it is known when the run is no more. Where an entry can't be kept, it refuses the
-/// next batch.
+/// Records what happens to the hosts of a run at its boundaries, so that it is known after the run is gone. If an entry can't be recorded,
+/// it refuses the next batch.
 pub trait Recorder: Drop {
-    /// Whether it may refuse a batch.
+    /// Whether it can refuse a batch.
     ghost refuses: { Bool };
 
-    /// From the first moment to the second it was given this entry, of a fleet.
+    /// Between the first state and the second, it received this entry about a fleet.
     ghost keeps: { Self → Self → FleetView → JournalEntry → Type 0 };
 
-    /// Of so many plays the first is to begin.
+    /// The first of `plays` plays is about to start.
     fn plays_begin(&mut self, fleet: &Fleet, plays: usize)
         ensures { keeps self.old self.new fleet.now (heading plays) };
 
-    /// A play begins; of each host its status.
+    /// A play starts with these statuses, one per host.
     fn begins(&mut self, fleet: &Fleet, statuses: &[Status])
         ensures { keeps self.old self.new fleet.now (beginning statuses.now) };
 
-    /// These hosts are set aside.
+    /// These hosts are held.
     fn sets_aside(&mut self, fleet: &Fleet, hosts: &[HostId])
         ensures { keeps self.old self.new fleet.now (aside (host_numbers hosts.now)) };
 
-    /// This batch is next, on a board that stands so: nothing of the batch has happened on it, and nothing can before the answer. If that is no, the batch doesn't open.
+    /// This batch is next, on a board in this state. Nothing of the batch has happened on it, and nothing can before the return. If this
+    /// returns false, the batch doesn't open.
     fn opens(&mut self, fleet: &Fleet, at: Moment<'_>, batch: &[HostId]) -> bool
         ensures opened { result ≡ true → keeps self.old self.new fleet.now (opening at.entry (host_numbers batch.now)) }
         ensures refused { result ≡ false → keeps self.old self.new fleet.now (refused at.entry (host_numbers batch.now)) }
         ensures refuses { result ≡ false → refuses ≡ true };
 
-    /// The batch is over; of each host of the fleet its status now.
+    /// The batch has ended; `statuses` has each host's current status.
     fn closes(&mut self, fleet: &Fleet, batch: &[HostId], statuses: &[Status])
         ensures { keeps self.old self.new fleet.now (closing (host_numbers batch.now) statuses.now) };
 
@@ -46,7 +47,7 @@ pub trait Recorder: Drop {
         ensures { keeps self.old self.new fleet.now (ended end) };
 }
 
-/// Nothing is kept.
+/// Records nothing.
 impl Recorder for NoObserver {
     ghost refuses = { false };
 

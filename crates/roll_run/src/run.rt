@@ -1,11 +1,11 @@
-//! What a run of a play leaves.
+//! The result of a run of a play.
 use fleet_states::Status;
 use host_track::Counts;
 use host_vars::Vars;
 use play_forecast::{Boundary, End};
 
-/// What a run of a play leaves beside its log, which is in the history: its boundaries, of which each but the last opened a batch; of each host its
-/// status, its variables with the results that it registered, and how its rows were judged; and how the play ended.
+/// The result of a run of a play, except its log, which is in the history. Each of its boundaries except the last opened a batch. Each host
+/// has its status, its variables with the registered results, and how its rows were judged.
 #[derive(Drop)]
 pub struct Run {
     pub boundaries: Vec<Boundary>,

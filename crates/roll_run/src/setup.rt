@@ -6,8 +6,8 @@ ghost use Rattle.play_forecast.specs.PlayPlans.{named_parts};
 use domains::Fleet;
 use play_model::Play;
 
-/// What the plays of a file are run with: the fleet, the plays that are to come, whose programs run, and how many workers start them, 1 to 64. Each part
-/// of a pattern of these plays names a group or a host of the fleet.
+/// What the plays of a file are run with: the fleet, the plays to come, their runner, and the number of workers, 1 to 64. Each part of a
+/// pattern of these plays matches a group or a host of the fleet.
 #[derive(Drop)]
 pub struct Setup<'r, R> {
     pub fleet: &'r Fleet,

@@ -1,19 +1,19 @@
-//! Whoever attends a run.
+//! Stop controls of a run.
 ghost use Rattle.std.specs.Prelude.{◌≡◌, Bool, false, true};
 
 use roll_core::NoObserver;
 use std::sync::Wait;
 
-/// May have a run end at a boundary.
+/// Can end a run at a boundary.
 pub trait StopControl {
-    /// Whether the end may be asked for.
+    /// Whether it can request the end.
     ghost asks: { Self → Bool };
 
-    /// Whether the next batch may be opened. It is asked before each; where it may not, the run ends at this boundary.
+    /// Reports whether the next batch may be opened. Called before each batch; if it returns false, the run ends at this boundary.
     fn goes_on<H: Wait>(&self, rt: &H) -> bool
         ensures { result ≡ false → asks self.now ≡ true };
 
-    /// A batch is next, and the plan has so many from here on, that one among them.
+    /// A batch is next; the plan has `ahead` batches from here on, including that one.
     fn plans<H: Wait>(&self, rt: &H, ahead: usize);
 }
 

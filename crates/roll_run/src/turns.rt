@@ -22,18 +22,18 @@ use std::alloc::Allocator;
 use std::sync::Wait;
 use std::sync::ledger::Ledger;
 
-/// What a play came to with a boundary and its batch.
+/// The outcome of a boundary and its batch.
 #[derive(Clone, Copy, Debug, Drop)]
 pub(crate) enum Turn {
-    /// The batch is behind it; it ended the play at the next boundary as told, if it did.
+    /// The batch is done; if it ended the play, the play ends this way at the next boundary.
     Behind(Option<End>),
     /// The play ended at the boundary.
     Ended(End),
-    /// It was broken off.
+    /// The run was interrupted.
     Broken(Break),
 }
 
-/// How the play ends at the boundary, if it does: as the batch before it ended it, or since no batch can be opened.
+/// Returns how the play ends at the boundary, if it does: as the batch before it ended it, or because no batch can be opened.
 fn end_at(before: Option<End>, boundary: &Boundary) -> Option<End>
     ensures { result ≡ courses.end_here before boundary.now }
 {
@@ -43,7 +43,7 @@ fn end_at(before: Option<End>, boundary: &Boundary) -> Option<End>
     }
 }
 
-/// How many batches the plan has.
+/// Returns how many batches the plan has.
 fn ahead(answer: &Answer) -> usize
     ensures { result ≡ length (courses.batches_of answer.now) }
 {
@@ -104,7 +104,7 @@ where
     }
 }
 
-/// Comes to the next boundary, and ends the play there or runs its batch.
+/// Moves to the next boundary, and ends the play there or runs its batch.
 #[allow(clippy::too_many_arguments)]
 fn move_on<
     'f,
@@ -162,7 +162,7 @@ where
     }
 }
 
-/// From the present boundary to the end of the play, or until it is broken off.
+/// Continues from the current boundary until the play ends or is interrupted.
 pub(crate) fn resume<
     'f,
     'b,

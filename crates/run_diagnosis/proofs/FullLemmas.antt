@@ -33,7 +33,7 @@ same_first p q agree fleet host = same_find (get_or fleet.chains host [])
     same_find [] = refl
     same_find (number ∷ numbers) = rw (agree number, same_find numbers) refl
 
--- a list of which each place says whether the group of that number is full says so of each number
+-- a list that states at each index whether the group of that number is full is right for each number
 pub full_at : (fleet : FleetView) (statuses : List Status) (group : ℕ)
     → get_or (map (is_full fleet statuses) (range_with_len 0 (length fleet.groups))) group false ≡ is_full fleet statuses group
 full_at fleet statuses group = by_case (cases_lt group (length fleet.groups))

@@ -15,7 +15,7 @@ use Rattle.play_model.specs.declared.play.Play.{Play}
 use Rattle.play_forecast.specs.PlayPlans.{targets}
 use Rattle.run_diagnosis.specs.LeftOut.{is_named}
 
--- one host more gets its flag
+-- one more host gets its flag
 pub flagged_more : (hosts : List HostId) (i : ℕ) (d : HostId) → i < length hosts → (old known now : List Bool) → length known ≡ length old
     → ((place : ℕ) → place < length old → get_or known place false ≡ (get_or old place false || has_number place (take i (host_numbers hosts))))
     → ((get_or hosts i d).index < length known → get_or now (get_or hosts i d).index false ≡ true)
@@ -38,7 +38,7 @@ flagged_more hosts i d within old known now len was own others place inside = by
         others place apart ∙ was place inside
         ∙ ap (λ b. get_or old place false || b) (sym (has_other (host_numbers hosts) i there place (λ e. apart (e ∙ number))))
 
--- one play more
+-- one more play
 pub named_more : (fleet : FleetView) (host : ℕ) (known now : Bool) (hosts : List ℕ) (plays : List Play) (i : ℕ) (play : Play) → i < length plays → play ≡ get_or plays i play
     → hosts ≡ targets fleet play → known ≡ is_named fleet (take i plays) host → now ≡ (known || has_number host hosts) → now ≡ is_named fleet (take (i + 1) plays) host
 named_more fleet host known now hosts plays i play within is are was told =

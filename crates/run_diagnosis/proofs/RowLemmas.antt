@@ -1,4 +1,4 @@
--- Rows that are told one after the other.
+-- Rows that are recorded in sequence.
 use Rattle.std.proofs.Common.{◌≡◌, ℕ, suc, ◌+◌, ◌<◌, ◌⊎◌, inl, inr, Bool, nat_eq, cond, Option, None, Some}
 use Rattle.std.proofs.Common.{List, [], ◌∷◌, ◌++◌, length, map, take, get_or, refl, sym, ap, ◌∙◌, arith}
 use Rattle.std.specs.List.{filter_map, last_or}
@@ -17,7 +17,7 @@ last_or-append : {X : Type 0} (before : Option X) (xs ys : List X) → last_or b
 last_or-append before [] ys = refl
 last_or-append before (x ∷ xs) ys = last_or-append (Some x) xs ys
 
--- a row that is told of one host, behind what was known of another or of the same
+-- a row that is recorded of one host, after what was known of another or of the same
 module _ (row : LastRow) (before : Option LastRow) where
   abbrev behind : Bool → Option LastRow
   behind is = last_or before (option_to_list (cond is (Some row) None))
@@ -30,7 +30,7 @@ module _ (row : LastRow) (before : Option LastRow) where
       by_case (inl same) = own same ∙ sym (ap behind (eq-eqb at host same))
       by_case (inr apart) = others (λ e. apart (sym e)) ∙ sym (ap behind (ne_eqb at host apart))
 
--- one event more of a log
+-- one more event of a log
 module _ (number : ℕ) (steps : List Step) (host : ℕ) where
   told_push : (log : List Event) (event : Event) → rows_told number steps host (log ++ event ∷ []) ≡ rows_told number steps host log ++ option_to_list (row_told number steps host event)
   told_push log event =
@@ -54,7 +54,7 @@ module _ (number : ℕ) (steps : List Step) (host : ℕ) where
       ∙ sym (last_or-append before (rows_told number steps host front) (option_to_list (row_told number steps host event)))
       ∙ ap (last_or before) (sym (told_push front event) ∙ ap (rows_told number steps host) (sym more))
 
--- one play more
+-- one more play
 abbrev rows_of_play : ℕ → ℕ → PlayedView → List LastRow
 rows_of_play number host played = rows_told number played.steps host played.log
 

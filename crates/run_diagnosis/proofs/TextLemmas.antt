@@ -1,4 +1,4 @@
--- Texts of all hosts, host by host.
+-- The text for all hosts, one by one.
 use Rattle.std.proofs.Common.{◌≡◌, ℕ, zero, suc, ◌+◌, ◌<◌, ◌≤◌, Bool, ◌&&◌, Option, None, Some, List, [], ◌∷◌, ◌++◌, filter, flat_map, length, refl, ap, ap₂, arith}
 use Rattle.std.specs.List.{range_with_len}
 use Rattle.domains.specs.FleetViews.{FleetView}
@@ -47,7 +47,7 @@ module _ (fleet : FleetView) (several : Bool) (statuses : List Status) where
       (λ group l m. rw (same group, same_hosts one other same kind (Some group)) refl))
       (ap (λ hosts. hosts_line fleet kind hosts None) (same_hosts one other same kind None))
 
-  -- rows and groups that are alike tell the same
+  -- equal rows and groups give equal texts
   pub same_why : (call : Option Call) (rows other_rows : ℕ → Option LastRow) (full other_full : ℕ → Bool)
       → ((host : ℕ) → host < length fleet.hosts → rows host ≡ other_rows host) → ((group : ℕ) → full group ≡ other_full group)
       → why_by fleet several rows full statuses call ≡ why_by fleet several other_rows other_full statuses call

@@ -15,7 +15,7 @@ use Rattle.run_diagnosis.specs.Standing.{hosts_between, hosts_that}
 abbrev pub count_text : ℕ → ℕ → List ℕ
 count_text failed all = if nat_lt 0 failed then field_text [] failed ++ (field_text (codes " of ") all ++ codes " hosts failed\n") else []
 
--- of those that the last play is for
+-- of the hosts that the last play is for
 abbrev pub count_line : FleetView → List Status → List ℕ
 count_line fleet statuses = count_text (length (hosts_that fleet statuses Failed)) (length (hosts_between fleet statuses 0 5))
 
@@ -23,7 +23,7 @@ count_line fleet statuses = count_text (length (hosts_that fleet statuses Failed
 abbrev pub failed_line : Bool → List ℕ → Option LastRow → List ℕ
 failed_line several name row = name ++ (codes " failed" ++ (failing_text several row ++ codes "\n"))
 
--- why a host has failed; another has no line
+-- why a host has failed; other hosts have no line
 abbrev pub down_line : Bool → List ℕ → Option LastRow → Status → List ℕ
 down_line several name row Failed = failed_line several name row
 down_line several name row Halted = []
@@ -34,7 +34,7 @@ down_line several name row Waiting = []
 down_line several name row Updated = []
 down_line several name row Held = []
 
--- the lines of the hosts, by name, of which these rows are the last
+-- the lines of the hosts, by name, given their last rows
 abbrev pub down_lines : FleetView → Bool → (ℕ → Option LastRow) → List Status → List ℕ
 down_lines fleet several row_of statuses =
     flat_map (λ host. down_line several (host_at fleet.hosts host) (row_of host) (status_at statuses host)) (range_with_len 0 (length fleet.hosts))

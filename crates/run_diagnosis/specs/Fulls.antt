@@ -6,7 +6,7 @@ use Rattle.domains.specs.FleetViews.{FleetView}
 use Rattle.fleet_states.specs.declared.status.Status.{Status}
 use Rattle.fleet_states.specs.Groups.{group_at, groups_of, room}
 
--- of a group's room: nobody more may go down. A group without a limit has room for all
+-- no room is left in a group; a group without a limit always has room
 abbrev pub is_none_left : Option ℕ → Bool
 is_none_left None = false
 is_none_left (Some room) = nat_eq room 0
@@ -18,6 +18,6 @@ is_full fleet statuses group = is_none_left (room statuses (group_at (groups_of 
 abbrev pub first_by : (ℕ → Bool) → FleetView → ℕ → Option ℕ
 first_by test fleet host = find test (list_at fleet.chains host)
 
--- the outermost that has no room, if one has none
+-- the outermost one that has no room, if there is one
 abbrev pub first_full : FleetView → List Status → ℕ → Option ℕ
 first_full fleet statuses host = first_by (is_full fleet statuses) fleet host

@@ -25,11 +25,11 @@ is_off Halted = false
 is_off Off = true
 is_off Held = false
 
--- the hosts that are off by these statuses and that one of the plays names, by name, each once
+-- the hosts that are off and that one of the plays names, by name, each once
 abbrev pub left_out : FleetView → List Status → List Play → List ℕ
 left_out fleet statuses plays = numbers_where (λ host. is_off (status_at statuses host) && is_named fleet plays host) (length fleet.hosts)
 
--- ` +N`, where there are more than ten
+-- ` +N`, if there are more than ten
 abbrev pub more_text : ℕ → List ℕ
 more_text count = if nat_lt 10 count then field_text (codes " +") (count - 10) else []
 
@@ -44,16 +44,16 @@ abbrev pub many_text : Bool → ℕ → List ℕ
 many_text several count =
     field_text (codes " are down and stay down: ") count ++ (codes " hosts of the " ++ (plays_text several ++ codes " are left out\n"))
 
--- what is said of so many hosts of one play, or of several
+-- what is reported about this many hosts of one play, or of several
 abbrev pub stay_text : Bool → ℕ → List ℕ
 stay_text several count = if nat_lt 1 count then many_text several count else one_text several
 
--- `note: NAME NAME .. are down and stay down: N hosts of the play are left out`: the first ten of them by their names
+-- `note: NAME NAME .. are down and stay down: N hosts of the play are left out`: the first ten of them by name
 abbrev pub note_text : FleetView → Bool → List ℕ → List ℕ
 note_text fleet several hosts =
     codes "note:" ++ (names_text fleet (take 10 hosts) ++ (more_text (length hosts) ++ stay_text several (length hosts)))
 
--- nothing is said where nobody is left out
+-- nothing if no host is skipped
 abbrev pub note_of : FleetView → Bool → List ℕ → List ℕ
 note_of fleet several [] = []
 note_of fleet several (host ∷ hosts) = note_text fleet several (host ∷ hosts)

@@ -1,4 +1,4 @@
--- Why a step failed on a host, in words.
+-- Why a step failed on a host, as text.
 use Rattle.std.specs.Prelude.{ℕ, ℤ, pos, negsuc, ◌+◌, ◌&&◌, min, Bool, true, false, is_some, if◌then◌else◌, Option, None, Some, option_map, string_bytes}
 use Rattle.std.specs.Prelude.{List, [], ◌++◌, bytes_eq, codes, length, nat_lt}
 use Rattle.std.specs.Ordering.{int_eq}
@@ -10,8 +10,8 @@ use Rattle.recap.specs.LimitsText.{field_text}
 use Rattle.recap.specs.Printable.{printed}
 use Rattle.run_diagnosis.specs.Rows.{LastRow}
 
--- what beside its return code judges a program that failed: `changed_when` and `failed_when`, where the step has them. Where it ended well and the step has no
--- `failed_when`, only a name without a value can have failed it
+-- what judges a failed program in addition to its return code: `changed_when` and `failed_when`, if the step has them; a program that
+-- succeeded in a step without `failed_when` can be judged failed only because of an undefined name
 abbrev pub conditions_text : Bool → Bool → Bool → List ℕ
 conditions_text has_changed_when has_failed_when ended_well =
     if has_failed_when then (if has_changed_when then codes ", judged by changed_when and failed_when" else codes ", judged by failed_when")
@@ -28,7 +28,7 @@ abbrev pub calls_ssh : Option Step → Bool
 calls_ssh None = false
 calls_ssh (Some step) = is_ssh step.words
 
--- what a return code says by custom: of a program that a signal ended, of `timeout`, of a shell, of `ssh`
+-- the conventional meaning of a return code: of a program that a signal ended, of `timeout`, of a shell, of `ssh`
 abbrev pub meaning_text : ℤ → Bool → List ℕ
 meaning_text rc by_ssh =
     if int_eq rc (negsuc 0) then codes " (ended by a signal)"
@@ -38,7 +38,7 @@ meaning_text rc by_ssh =
     else (if int_eq rc (pos 143) then codes " (signal TERM)"
     else (if int_eq rc (pos 255) && by_ssh then codes " (ssh could not connect)" else [])))))
 
--- `rc=R`, what that says, and what judges it
+-- `rc=R`, its meaning, and what judges it
 abbrev pub ran_text : ℤ → Option Step → List ℕ
 ran_text rc step = codes "rc=" ++ (integer_text rc ++ (meaning_text rc (calls_ssh step) ++ judged_text rc step))
 
@@ -61,12 +61,12 @@ abbrev pub named_text : Option (List ℕ) → List ℕ
 named_text None = []
 named_text (Some name) = bracketed_text name
 
--- the same of a step that has a name
+-- likewise for a step that has a name
 abbrev pub step_text : Option Step → List ℕ
 step_text None = []
 step_text (Some step) = named_text (option_map string_bytes step.name)
 
--- ` in play P`, where the file has several
+-- ` in play P`, if the file has several
 abbrev pub play_text : Bool → ℕ → List ℕ
 play_text true number = field_text (codes " in play ") number
 play_text false number = []
@@ -77,7 +77,7 @@ row_text several row =
     play_text several row.play
     ++ (field_text (codes " at step ") (min (row.place + 1) 18446744073709551615) ++ (step_text row.step ++ (codes ": " ++ reason_text row.step row.ending)))
 
--- the same; nothing where no row is known
+-- likewise; nothing if no row is known
 abbrev pub failing_text : Bool → Option LastRow → List ℕ
 failing_text several None = []
 failing_text several (Some row) = row_text several row

@@ -8,14 +8,14 @@ use Rattle.roll_core.specs.Views.{events_of}
 use Rattle.run_diagnosis.specs.declared.rows.Played.{Played}
 use Rattle.run_diagnosis.specs.declared.rows.Row.{Row}
 
--- how a step ended on a host: the number of its play, from 1, the step's place in that, from 0, and the step
+-- how a step ended on a host: the number of its play, from 1, the step's index in it, from 0, and the step
 pub record LastRow : Type 0 where
   pub play : ℕ
   pub place : ℕ
   pub step : Option Step
   pub ending : Ending
 
--- what an event tells of the host's rows, in the play of this number with these steps
+-- what an event records of the host's rows, in the play of this number with these steps
 abbrev pub row_told : ℕ → List Step → ℕ → Event → Option LastRow
 row_told number steps host (set_aside hosts) = None
 row_told number steps host (opened batch) = None
@@ -29,25 +29,25 @@ row_told number steps host closed = None
 abbrev pub rows_told : ℕ → List Step → ℕ → List Event → List LastRow
 rows_told number steps host log = filter_map (row_told number steps host) log
 
--- a play that was begun: its steps, and the log of its run
+-- a play that was started: its steps, and the log of its run
 pub record PlayedView : Type 0 where
   pub steps : List Step
   pub log : List Event
 
--- the host's rows in plays, of which the first has this number
+-- the host's rows in plays, the first of which has this number
 abbrev pub rows_in : ℕ → ℕ → List PlayedView → List LastRow
 rows_in number host [] = []
 rows_in number host (played ∷ rest) = rows_told number played.steps host played.log ++ rows_in (number + 1) host rest
 
--- the last of them: where the host has failed, that on which it did, since it has none behind it
+-- the last of them: if the host has failed, the row where it failed, since none follows that
 abbrev pub last_row : List PlayedView → ℕ → Option LastRow
 last_row played host = last_or None (rows_in 1 host played)
 
--- what a clause sees of a play that is lent
+-- what contracts see of a borrowed play
 abbrev pub shown : Played → PlayedView
 shown played = record { steps = played.play.now.steps.items; log = events_of played.log.now }
 
--- what a clause sees of a row that is lent
+-- what contracts see of a borrowed row
 abbrev pub seen : Row → LastRow
 seen row = record { play = row.play; place = row.place; step = option_map (λ step. step.now) row.step; ending = ending_of row.outcome.now }
 

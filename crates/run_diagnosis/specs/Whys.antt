@@ -1,4 +1,4 @@
--- What an operator is told when a run has ended otherwise than with all done.
+-- What is reported to an operator if a run has not updated every host.
 use Rattle.std.specs.Prelude.{ℕ, Bool, true, false, not, ◌||◌, Option, None, Some, List, ◌++◌}
 use Rattle.std.specs.List.{list_any}
 use Rattle.domains.specs.FleetViews.{FleetView}
@@ -14,7 +14,7 @@ use Rattle.run_diagnosis.specs.Nexts.{next_text}
 use Rattle.run_diagnosis.specs.Standing.{hosts_between, kept_lines, kind_line}
 use Rattle.run_diagnosis.specs.declared.next.Call.{Call}
 
--- the host is down by the run: it has failed, or was at work when it, or one that it goes on with, was stopped
+-- the host is down because of the run: it has failed, or was running when this run, or an earlier one that it resumes, was stopped
 abbrev pub is_failed : Status → Bool
 is_failed Failed = true
 is_failed Idle = false
@@ -32,12 +32,12 @@ is_finished (ending.Blocked group) = false
 is_finished (ending.TooManyFailed step failed size) = false
 is_finished ending.AllFailed = false
 
--- there is something to be told of a run whose last play ended so, or was broken off, and left these statuses
+-- there is something to explain about a run whose last play ended this way, or was interrupted, and that left these statuses
 abbrev pub has_why : Option End → List Status → Bool
 has_why (Some end) statuses = not (is_finished end) || list_any (λ status. is_failed status) statuses
 has_why None statuses = true
 
--- each failure, the hosts that are down otherwise, those whose turn did not come, by the group that has no room, and what to do next
+-- each failure, the other hosts that are down, those whose turn did not come, by group without room, and what to do next
 abbrev pub why_by : FleetView → Bool → (ℕ → Option LastRow) → (ℕ → Bool) → List Status → Option Call → List ℕ
 why_by fleet several row_of full statuses call =
     count_line fleet statuses
@@ -49,6 +49,6 @@ why_by fleet several row_of full statuses call =
     ++ (kept_lines fleet full statuses Held
     ++ next_text fleet (hosts_between fleet statuses 0 2) (list_any (λ status. is_down status) statuses) call))))))
 
--- the same by the logs of the plays that were begun
+-- likewise, given the logs of the plays that were started
 abbrev pub why_text : FleetView → Bool → List PlayedView → List Status → Option Call → List ℕ
 why_text fleet several played statuses call = why_by fleet several (last_row played) (is_full fleet statuses) statuses call

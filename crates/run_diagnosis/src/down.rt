@@ -53,7 +53,7 @@ fn write_line<W: Write>(
     }
 }
 
-/// The last row of a host, if one is known.
+/// Returns the last row of a host, if one is known.
 fn row_of<'r>(rows: &[Option<Row<'r>>], host: usize) -> Option<Row<'r>>
     ensures { option_map seen result ≡ seen_at rows.now host }
 {
@@ -63,7 +63,7 @@ fn row_of<'r>(rows: &[Option<Row<'r>>], host: usize) -> Option<Row<'r>>
     }
 }
 
-/// Writes the lines of the hosts that have failed, by name, of which these rows are the last.
+/// Writes the lines of the failed hosts, by name, given each host's last row.
 pub(crate) fn write_down_lines<W: Write>(
     text: &mut TextWriter<'_, W>,
     fleet: &Fleet,
@@ -104,7 +104,7 @@ fn write_count_of<W: Write>(text: &mut TextWriter<'_, W>, failed: usize, all: us
     }
 }
 
-/// The same; nothing if none has.
+/// Likewise; writes nothing if none has.
 pub(crate) fn write_count<W: Write>(text: &mut TextWriter<'_, W>, failed: &[HostId], all: &[HostId])
     ensures { Writes W.contents text.old text.new (spec.count_text (length (host_numbers failed.now)) (length (host_numbers all.now))) }
 {

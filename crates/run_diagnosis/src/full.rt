@@ -25,7 +25,7 @@ fn is_full(fleet: &Fleet, statuses: &[Status], group: GroupId) -> bool
     is_none_left(room(fleet, statuses, group))
 }
 
-/// Of each group whether it has no room. The members of each are counted once. Only want of memory refuses it.
+/// Returns for each group whether it has no room. Counts the members of each group once. Fails only if an allocation fails.
 pub fn list_full(alloc: Global, fleet: &Fleet, statuses: &[Status]) -> Result<Vec<bool>, AllocError>
     ensures { IfOk result (λ full. (group : ℕ) → slice_index_or full.items group false ≡ spec.is_full fleet.now statuses.now group) }
 {
@@ -45,14 +45,14 @@ pub(crate) fn is_full_at(full: &[bool], group: GroupId) -> bool
     }
 }
 
-/// The first of these groups that has no room, where `full` says which have none.
+/// Returns the first of these groups that `full` marks as having no room.
 fn first_of(full: &[bool], chain: &[GroupId]) -> Option<GroupId>
     ensures { result ≡ find (λ group. slice_index_or full.now group.index false) chain.now }
 {
     chain.iter().copied().find(|group| is_full_at(full, *group))
 }
 
-/// The outermost of the host's groups that has no room.
+/// Returns the outermost of the host's groups that has no room.
 pub fn first_full(fleet: &Fleet, full: &[bool], host: HostId) -> Option<GroupId>
     requires { host.index < length fleet.now.hosts }
     ensures { option_map (λ group. group.index) result ≡ spec.first_by (λ group. slice_index_or full.now group false) fleet.now host.index }

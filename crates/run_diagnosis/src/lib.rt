@@ -1,4 +1,5 @@
-//! What an operator is told beside a run: why hosts are down at its end, which of them wait and for what, and who is left out from the start.
+//! What is reported to an operator in addition to the results of a run. Why are hosts down at its end, which hosts wait and for what, and
+//! which were skipped?
 #![tactic(auto)]
 
 mod down;

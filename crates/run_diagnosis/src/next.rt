@@ -1,4 +1,4 @@
-//! What is to be done next.
+//! What to do next.
 ghost use Rattle.std.specs.Prelude.{◌≡◌, ◌++◌, option_map};
 ghost use Rattle.bounded_io.specs.Writing.{Writes};
 ghost use Rattle.domains.specs.Ids.{host_numbers};
@@ -11,14 +11,14 @@ use group_tree::HostId;
 use recap::host_name;
 use std::io::Write;
 
-/// The command that goes on with a run that is kept in a journal, as a shell reads it: what stands before the names of the hosts that are up, and what behind them.
+/// The shell command that resumes a run with a journal: the parts before and after the names of the hosts that are back up.
 #[derive(Drop)]
 pub struct Call {
     pub front: Vec<u8>,
     pub back: Vec<u8>,
 }
 
-/// What stands before a name.
+/// Returns what precedes a name.
 fn gap_of(place: usize) -> &'static str
     ensures { result.now ≡ spec.gap_text place }
 {
@@ -33,7 +33,7 @@ fn write_name<W: Write>(text: &mut TextWriter<'_, W>, fleet: &Fleet, place: usiz
     text.write_str(host_name(fleet, host));
 }
 
-/// Writes the names of the hosts that are up again; nothing without hosts.
+/// Writes the names of the hosts that are back up, or nothing if there are none.
 fn write_up<W: Write>(text: &mut TextWriter<'_, W>, fleet: &Fleet, hosts: &[HostId])
     ensures { Writes W.contents text.old text.new (spec.up_text fleet.now (host_numbers hosts.now)) }
 {
@@ -78,7 +78,7 @@ fn write_anew<W: Write>(text: &mut TextWriter<'_, W>, any_down: bool)
     text.write_str("run the rest by a narrower \"hosts\" (docs/DURING_AND_AFTER.md)\n");
 }
 
-/// Writes what to do next: the command, if the run has a journal, which names the hosts that the run left down.
+/// Writes what to do next. If the run has a journal, this is the command, with the names of the hosts that the run left down.
 pub(crate) fn write_next<W: Write>(
     text: &mut TextWriter<'_, W>,
     fleet: &Fleet,

@@ -1,4 +1,4 @@
-//! The note of hosts that are left out of plays.
+//! The note about hosts that plays skip.
 ghost use Rattle.std.specs.Prelude.{◌≡◌, IfOk, flat_map, length, nat_lt, take};
 ghost use Rattle.bounded_io.specs.Writing.{Writes};
 ghost use Rattle.domains.specs.Ids.{host_numbers};
@@ -35,7 +35,7 @@ fn write_each_name<W: Write>(text: &mut TextWriter<'_, W>, fleet: &Fleet, hosts:
     }
 }
 
-/// The hosts of which the names are told.
+/// Returns the hosts that are named.
 fn first_hosts(hosts: &[HostId]) -> &[HostId]
     ensures { result.now ≡ take 10 hosts.now }
 {
@@ -49,7 +49,7 @@ pub(crate) fn write_names<W: Write>(text: &mut TextWriter<'_, W>, fleet: &Fleet,
     write_each_name(text, fleet, first_hosts(hosts));
 }
 
-/// Writes how many more there are than are named.
+/// Writes how many hosts there are beyond those that are named.
 #[tactic(auto, using(bounded_io::proofs::Pieces::pieces_of_text))]
 pub(crate) fn write_more<W: Write>(text: &mut TextWriter<'_, W>, count: usize)
     ensures { Writes W.contents text.old text.new (spec.more_text count) }
@@ -123,7 +123,7 @@ fn write_note_of<W: Write>(
     }
 }
 
-/// The same as a text of its own. Only want of memory refuses it.
+/// Returns that as bytes. Fails only if an allocation fails.
 fn note_bytes(
     alloc: Global,
     fleet: &Fleet,
@@ -147,8 +147,9 @@ fn are_several(plays: &[Play]) -> bool
     plays.len() > 1
 }
 
-/// The note of the hosts that these plays name and that are off by these statuses, with which the first of them begins; nothing where there are none. A host is told once, however
-/// many of the plays name it, since it is out of all of them. Only want of memory refuses it, where the plays' patterns were looked up.
+/// Returns the note about the hosts that these plays name and that are off at the start of the first play. Returns nothing if there are
+/// none. A host appears once however many plays name it, since all of them skip it. If the plays' patterns were resolved before, fails only
+/// if an allocation fails.
 pub fn left_out_lines(
     alloc: Global,
     fleet: &Fleet,

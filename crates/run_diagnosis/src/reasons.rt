@@ -1,4 +1,4 @@
-//! Why a step failed on a host, in the words that follow a recap.
+//! Why a step failed on a host, as text after a recap.
 ghost use Rattle.std.specs.Prelude.{◌≡◌, ◌+◌, min, option_map, pos, string_bytes};
 ghost use Rattle.std.specs.Ordering.{int_eq};
 ghost use Rattle.bounded_io.specs.Writing.{Writes};
@@ -13,7 +13,7 @@ use play_model::{Step, Words};
 use recap::{write_field, write_integer, write_printable};
 use std::io::Write;
 
-/// Which conditions judge a program that failed.
+/// Returns how conditions judged a program failed.
 fn conditions_of(has_changed_when: bool, has_failed_when: bool, ended_well: bool) -> &'static str
     ensures { result.now ≡ spec.conditions_text has_changed_when has_failed_when ended_well }
 {
@@ -64,7 +64,7 @@ fn calls_ssh(step: Option<&Step>) -> bool
     }
 }
 
-/// What a return code says by custom.
+/// Returns the conventional meaning of a return code.
 fn meaning_of(rc: i32, calls_ssh: bool) -> &'static str
     ensures { result.now ≡ spec.meaning_text rc calls_ssh }
 {
@@ -115,7 +115,7 @@ fn write_reason<W: Write>(text: &mut TextWriter<'_, W>, step: Option<&Step>, out
     }
 }
 
-/// Writes a name between brackets.
+/// Writes a name in brackets.
 #[tactic(auto, using(bounded_io::proofs::Pieces::pieces_of_text))]
 fn write_bracketed<W: Write>(text: &mut TextWriter<'_, W>, name: &str)
     ensures { Writes W.contents text.old text.new (spec.bracketed_text name.now) }
@@ -146,7 +146,7 @@ fn write_name<W: Write>(text: &mut TextWriter<'_, W>, name: &Option<String>)
     }
 }
 
-/// Writes the number of the play, where the file has several.
+/// Writes the number of the play, if the file has several.
 #[tactic(auto, using(bounded_io::proofs::Pieces::pieces_of_text))]
 fn write_play<W: Write>(text: &mut TextWriter<'_, W>, several: bool, number: u64)
     ensures { Writes W.contents text.old text.new (spec.play_text several number) }
@@ -156,7 +156,7 @@ fn write_play<W: Write>(text: &mut TextWriter<'_, W>, several: bool, number: u64
     }
 }
 
-/// The step's number, from 1.
+/// Returns the step's number, from 1.
 fn number_of(place: usize) -> u64
     ensures { result ≡ min (place + 1) 18446744073709551615 }
 {
@@ -174,7 +174,7 @@ fn write_row<W: Write>(text: &mut TextWriter<'_, W>, several: bool, row: &Row<'_
     write_reason(text, row.step, row.outcome);
 }
 
-/// Writes where a host failed and why, where a row of it is known.
+/// Writes where and why a host failed, if a row of it is known.
 #[tactic(auto, using(bounded_io::proofs::Pieces::pieces_of_text))]
 pub(crate) fn write_failing<W: Write>(
     text: &mut TextWriter<'_, W>,

@@ -11,14 +11,14 @@ use play_model::{Play, Step};
 use roll_core::Event;
 use std::alloc::{AllocError, Global};
 
-/// A play that was begun, and the log of its run, the oldest event first.
+/// A play that was started, and the log of its run, oldest event first.
 #[derive(Clone, Copy)]
 pub struct Played<'r> {
     pub play: &'r Play,
     pub log: &'r [Event],
 }
 
-/// How a step ended on a host: the number of its play, from 1, and the step's place in that, from 0.
+/// How a step ended on a host, with the number of its play, from 1, and the step's index in it, from 0.
 #[derive(Clone, Copy)]
 pub(crate) struct Row<'r> {
     pub(crate) play: u64,
@@ -27,7 +27,7 @@ pub(crate) struct Row<'r> {
     pub(crate) outcome: &'r Outcome,
 }
 
-/// Takes the row for the last one of the host; a number that no host has is passed over.
+/// Sets the last row of the host; ignores a number that no host has.
 fn put<'r>(last: &mut Vec<Option<Row<'r>>>, host: HostId, row: Row<'r>)
     ensures len { length last.new.items ≡ length last.old.items }
     ensures own { host.index < length last.old.items → seen_at last.new.items host.index ≡ Some (seen row.entry) }
@@ -38,14 +38,14 @@ fn put<'r>(last: &mut Vec<Option<Row<'r>>>, host: HostId, row: Row<'r>)
     }
 }
 
-/// The step at this place, if there is one.
+/// Returns the step at this index, if there is one.
 fn step_at(steps: &[Step], place: usize) -> Option<&Step>
     ensures { option_map (λ step. step.now) result ≡ slice_get steps.now place }
 {
     steps.get(place)
 }
 
-/// Goes on with one event of a play.
+/// Processes one event of a play.
 fn note<'r>(last: &mut Vec<Option<Row<'r>>>, number: u64, steps: &'r [Step], event: &'r Event)
     ensures len { length last.new.items ≡ length last.old.items }
     ensures rows { (host : ℕ) → host < length last.old.items
@@ -62,7 +62,7 @@ fn note<'r>(last: &mut Vec<Option<Row<'r>>>, number: u64, steps: &'r [Step], eve
     }
 }
 
-/// Goes on with the log of a play.
+/// Processes the log of a play.
 fn note_all<'r>(last: &mut Vec<Option<Row<'r>>>, number: u64, steps: &'r [Step], log: &'r [Event])
     ensures len { length last.new.items ≡ length last.old.items }
     ensures rows { (host : ℕ) → host < length last.old.items
@@ -73,7 +73,7 @@ fn note_all<'r>(last: &mut Vec<Option<Row<'r>>>, number: u64, steps: &'r [Step],
     }
 }
 
-/// Of each host its last row in these plays, if it has one. Each log is gone through once.
+/// Returns for each host its last row in these plays, if it has one. Traverses each log once.
 pub(crate) fn last_rows<'r>(
     alloc: Global,
     hosts: usize,

@@ -1,4 +1,4 @@
-//! Hosts that plays name and that are down when the first of them begins.
+//! Hosts that plays name and that are down when the first play starts.
 ghost use Rattle.std.specs.Prelude.{◌≡◌, ℕ, ◌<◌, ◌||◌, ◌&&◌, ◌++◌, ◌∷◌, [], cond, false, true, IfOk, OnOk, length, slice_index_or};
 ghost use Rattle.fleet_index.specs.NumberLists.{has_number, numbers_where};
 ghost use Rattle.domains.specs.Ids.{host_numbers};
@@ -12,7 +12,7 @@ use group_tree::HostId;
 use play_model::Play;
 use std::alloc::{AllocError, Global};
 
-/// Flags the host; a number that no host has is passed over.
+/// Flags the host; ignores a number that no host has.
 fn flag(flags: &mut Vec<bool>, host: HostId)
     ensures len { length flags.new.items ≡ length flags.old.items }
     ensures own { host.index < length flags.old.items → slice_index_or flags.new.items host.index false ≡ true }
@@ -34,7 +34,7 @@ fn flag_all(flags: &mut Vec<bool>, hosts: &[HostId])
     }
 }
 
-/// The hosts that the play is for. Only want of memory refuses it, where its pattern was looked up.
+/// Returns the hosts that the play is for. If its pattern was resolved before, fails only if an allocation fails.
 fn target(alloc: Global, fleet: &Fleet, play: &Play) -> Result<Vec<HostId>, AllocError>
     ensures { IfOk result (λ hosts. host_numbers hosts.items ≡ targets fleet.now play.now) }
 {
@@ -44,7 +44,7 @@ fn target(alloc: Global, fleet: &Fleet, play: &Play) -> Result<Vec<HostId>, Allo
     }
 }
 
-/// Of each host whether one of the plays names it.
+/// Returns for each host whether one of the plays names it.
 fn flag_named(alloc: Global, fleet: &Fleet, plays: &[Play]) -> Result<Vec<bool>, AllocError>
     ensures len { IfOk result (λ flags. length flags.items ≡ length fleet.now.hosts) }
     ensures named { IfOk result (λ flags. (host : ℕ) → host < length fleet.now.hosts → slice_index_or flags.items host false ≡ spec.is_named fleet.now plays.now host) }
@@ -57,7 +57,7 @@ fn flag_named(alloc: Global, fleet: &Fleet, plays: &[Play]) -> Result<Vec<bool>,
     Ok(flags)
 }
 
-/// Whether the host is off, and named by one of the plays, where `flags` say which hosts are.
+/// Reports whether the host is off, and `flags` marks it as named by one of the plays.
 fn is_left_out(statuses: &[Status], flags: &[bool], host: HostId) -> bool
     ensures { result ≡ (spec.is_off (status_at statuses.now host.index) && slice_index_or flags.now host.index false) }
 {
@@ -82,7 +82,7 @@ fn is_flagged(flags: &[bool], host: HostId) -> bool
     }
 }
 
-/// Adds the host where it is left out.
+/// Adds the host if it is skipped.
 pub(crate) fn push_where(hosts: &mut Vec<HostId>, host: HostId, out: bool) -> Result<(), AllocError>
     ensures { OnOk result (host_numbers hosts.new.items ≡ host_numbers hosts.old.items ++ cond out (host.index ∷ []) []) }
 {
@@ -110,7 +110,8 @@ fn list_flagged(
     Ok(hosts)
 }
 
-/// The hosts that are off by these statuses and that one of the plays names, by name, each once. Only want of memory refuses it, where their patterns were looked up.
+/// Returns the hosts that are off and that one of the plays names, by name, each once. If the plays' patterns were resolved before, fails
+/// only if an allocation fails.
 pub(crate) fn list_left_out(
     alloc: Global,
     fleet: &Fleet,

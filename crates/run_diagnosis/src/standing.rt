@@ -1,4 +1,4 @@
-//! Hosts by how they stand at the end of a run.
+//! Hosts by their status at the end of a run.
 ghost use Rattle.std.specs.Prelude.{◌≡◌, ◌<◌, ◌++◌, IfOk, OnOk, false, length, option_map, slice_index_or};
 ghost use Rattle.bounded_io.specs.Writing.{Writes};
 ghost use Rattle.domains.specs.Ids.{host_numbers};
@@ -15,7 +15,7 @@ use recap::{group_name, word_of};
 use std::alloc::{AllocError, Global};
 use std::io::Write;
 
-/// What the run left down comes first, then what else the play is for.
+/// Returns the rank of a status. The hosts that the run left down come first, followed by the other hosts the play is for.
 pub(crate) fn rank_of(status: Status) -> usize
     ensures { result ≡ spec.rank_of status }
 {
@@ -37,7 +37,7 @@ fn is_between(least: usize, most: usize, status: Status) -> bool
     least <= rank_of(status) && rank_of(status) <= most
 }
 
-/// The hosts whose rank is at least this and at most that, by name.
+/// Returns the hosts whose rank is in this range, by name.
 pub(crate) fn list_between(
     alloc: Global,
     fleet: &Fleet,
@@ -66,14 +66,14 @@ fn is_same(one: Option<GroupId>, other: Option<GroupId>) -> bool
     }
 }
 
-/// How hosts stand, and the outermost group without room that keeps them, if one does.
+/// The status of hosts, and the outermost group without room that blocks them, if there is one.
 #[derive(Clone, Copy)]
 struct Cause {
     kind: Status,
     group: Option<GroupId>,
 }
 
-/// Whether a host of this status has this cause, where `full` says of each group whether it has no room.
+/// Reports whether a host of this status has this cause. `full` states for each group whether it has no room.
 fn is_kept(fleet: &Fleet, full: &[bool], cause: Cause, host: HostId, status: Status) -> bool
     requires { host.index < length fleet.now.hosts }
     ensures { result
@@ -83,7 +83,7 @@ fn is_kept(fleet: &Fleet, full: &[bool], cause: Cause, host: HostId, status: Sta
     is_between(rank, rank, status) && is_same(cause.group, first_full(fleet, full, host))
 }
 
-/// The hosts of this cause, by name.
+/// Returns the hosts of this cause, by name.
 fn list_kept(
     alloc: Global,
     fleet: &Fleet,
@@ -145,7 +145,7 @@ fn write_some<W: Write>(text: &mut TextWriter<'_, W>, fleet: &Fleet, cause: Caus
     write_end(text, fleet, cause.group);
 }
 
-/// Writes the line of these hosts; none without hosts.
+/// Writes the line of these hosts, or nothing if there are none.
 fn write_hosts_line<W: Write>(
     text: &mut TextWriter<'_, W>,
     fleet: &Fleet,
@@ -159,7 +159,7 @@ fn write_hosts_line<W: Write>(
     }
 }
 
-/// Adds the same to some lines. Only want of memory refuses it.
+/// Adds that line to other lines. Fails only if an allocation fails.
 fn add_hosts_line(
     lines: &mut Vec<u8>,
     fleet: &Fleet,
@@ -176,7 +176,7 @@ fn add_hosts_line(
     }
 }
 
-/// Adds the line of the hosts that stand so.
+/// Adds the line of the hosts with this status.
 pub(crate) fn add_kind(
     lines: &mut Vec<u8>,
     alloc: Global,
@@ -207,7 +207,7 @@ fn add_cause(
     add_hosts_line(lines, fleet, cause, hosts.as_slice())
 }
 
-/// Adds the line of the hosts that stand so and are kept by this group, if it has no room.
+/// Adds the line of the hosts that have this status and are blocked by this group, if it has no room.
 fn add_group(
     lines: &mut Vec<u8>,
     alloc: Global,
@@ -235,7 +235,7 @@ fn keeps(full: &[bool], cause: Cause) -> bool
     }
 }
 
-/// Adds a line a group without room, and one for those that no group keeps.
+/// Adds one line per group without room, and one for the hosts that no group blocks.
 pub(crate) fn add_kept(
     lines: &mut Vec<u8>,
     alloc: Global,

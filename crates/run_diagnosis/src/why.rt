@@ -1,4 +1,4 @@
-//! What an operator is told when a run has ended otherwise than with all done.
+//! What is reported to an operator if a run has not updated every host.
 ghost use Rattle.std.specs.Prelude.{◌≡◌, ◌++◌, IfOk, OnOk, false, length, map, option_map, slice_index_or};
 ghost use Rattle.std.specs.List.{list_any};
 ghost use Rattle.domains.specs.Ids.{host_numbers};
@@ -21,7 +21,8 @@ use group_tree::HostId;
 use play_forecast::End;
 use std::alloc::{AllocError, Global};
 
-/// Whether the host is down by the run: it has failed, or was at work when it, or one that it goes on with, was stopped.
+/// Reports whether the host is down because of the run. It has failed, or was running when this run, or an earlier one that it resumes, was
+/// stopped.
 fn is_failed(status: Status) -> bool
     ensures { result ≡ spec.is_failed status }
 {
@@ -52,8 +53,8 @@ fn is_finished(end: End) -> bool
     }
 }
 
-/// Whether there is something to be told of a run whose last play ended so, or was broken off, and left these statuses: not where it finished
-/// and no host is down by it.
+/// Reports whether there is something to explain. There is none if the last play finished and the run left no host down. A run without an
+/// end was interrupted.
 pub fn has_why(end: Option<End>, statuses: &[Status]) -> bool
     ensures { result ≡ spec.has_why end statuses.now }
 {
@@ -88,7 +89,7 @@ fn add_counted(lines: &mut Vec<u8>, failed: &[HostId], all: &[HostId]) -> Result
     }
 }
 
-/// Adds the line of each that has, where `rows` are the hosts' last rows.
+/// Adds the line of each failed host, given the hosts' last rows.
 fn add_failed(
     lines: &mut Vec<u8>,
     fleet: &Fleet,
@@ -138,7 +139,7 @@ fn add_advice(
     }
 }
 
-/// What to do next with a run of a journal that has left these statuses. Only want of memory refuses it.
+/// Returns what to do next with a run that has a journal and left these statuses. Fails only if an allocation fails.
 pub fn next_lines(
     alloc: Global,
     fleet: &Fleet,
@@ -152,7 +153,7 @@ pub fn next_lines(
     Ok(lines)
 }
 
-/// The lines, where `rows` are the hosts' last rows and `full` says of each group whether it has no room.
+/// Returns the lines, given the hosts' last rows. `full` states for each group whether it has no room.
 fn why_bytes(
     alloc: Global,
     ended: &Ended<'_>,
@@ -180,7 +181,8 @@ fn why_bytes(
     Ok(lines)
 }
 
-/// A run that has ended and left these statuses: `several` if the file has several plays; and the command that goes on with it, if it has a journal.
+/// A run that has ended and left these statuses. `several` is true if the file has several plays. `call` is the command that resumes the
+/// run, if it has a journal.
 #[derive(Clone, Copy)]
 pub struct Ended<'e> {
     pub fleet: &'e Fleet,
@@ -189,7 +191,8 @@ pub struct Ended<'e> {
     pub call: Option<&'e Call>,
 }
 
-/// Why hosts are down when a run of these plays has ended, why others had no turn, and what to do next. Each log is gone through once. Only want of memory refuses it.
+/// Returns why hosts are down at the end of a run of these plays, why others had no turn, and what to do next. Traverses each log once.
+/// Fails only if an allocation fails.
 pub fn diagnosis_lines(
     alloc: Global,
     ended: &Ended<'_>,

@@ -1,4 +1,4 @@
--- The answers of a session are those that a run gives which goes as rehearsed.
+-- The answers of a session are those that a run gives which matches the rehearsal.
 use Rattle.std.proofs.Common.{◌≡◌, ℕ, suc, ◌+◌, Option, None, Some, List, [], ◌∷◌, ◌++◌, drop, length, take, refl, sym, ap, ◌∙◌, subst, length-append, arith}
 use Rattle.std.proofs.Math.Seq.{drop-append_seam, take-append_seam}
 use Rattle.std.proofs.lemmas.List.{length-map}
@@ -40,7 +40,7 @@ use Rattle.run_forecast_laws.specs.Answered.{GoesAsAnswered, answer_of_run, ende
 use Rattle.run_forecast_laws.proofs.Splits.{Splits, as_many, opens_more, same_ends, splits}
 use Rattle.run_forecast_laws.proofs.Tellings.{same_group, same_plan, same_show}
 
--- a batch more
+-- one more batch
 batches_push : (below : Stage) (above : List Stage) (stage : Stage) → batches_to below (above ++ stage ∷ []) ≡ batches_to below above ++ next_batch (top_of below above).boundary.answer ∷ []
 batches_push below [] stage = refl
 batches_push below (next_stage ∷ above) stage = ap (λ (l : List (List ℕ)). next_batch below.boundary.answer ∷ l) (batches_push next_stage above stage)
@@ -51,7 +51,7 @@ last_pushed below above stage =
     ∙ ap (λ (n : ℕ). drop n (batches_to below above ++ next_batch (top_of below above).boundary.answer ∷ [])) (sym (many_batches below above))
     ∙ drop-append_seam (batches_to below above) (next_batch (top_of below above).boundary.answer ∷ [])
 
--- who advanced by one batch went on by it
+-- advancing by one batch passes exactly that batch
 one_between : (before after : RehearsalView) (stage : Stage) → after ≡ pushed stage before
     → next_batch (top before).boundary.answer ∷ [] ≡ drop (length before.above) (batches_to after.first after.above)
 one_between before after stage grown =
@@ -115,7 +115,7 @@ module _ (may : Work → Ending → Type 0) (fleet : FleetView) (play : Play) (f
       ∙ ap (λ (n : ℕ). take n (batches_to rehearsal.first rehearsal.above ++ more.0)) (sym (many_batches rehearsal.first rehearsal.above))
       ∙ take-append_seam (batches_to rehearsal.first rehearsal.above) more.0
 
-  -- the run where the rehearsal stands
+  -- the run at the rehearsal's state
   abbrev stage : Stage
   stage = run_stage rehearsal split.here (ended_at run.end split.ahead)
 
@@ -136,7 +136,7 @@ module _ (may : Work → Ending → Type 0) (fleet : FleetView) (play : Play) (f
         ≡ told (telling_of shown) fleet (Some (unless (over was.place.rehearsal) (opened_between (batches_in log) was now)))
     goes_on shown now at = ap (λ (batches : List (List ℕ)). told (telling_of shown) fleet (Some (unless (over was.place.rehearsal) (says.advanced batches)))) (between now at)
 
-    -- where nothing was advanced, it stands where it stood
+    -- if nothing was advanced, its state is unchanged
     module _ (same : was.place.rehearsal ≡ rehearsal) where
       here : IsSameBoundary (top was.place.rehearsal).boundary split.here
       here = subst (λ (r : RehearsalView). IsSameBoundary (top r).boundary split.here) (sym same) split.same
@@ -157,7 +157,7 @@ module _ (may : Work → Ending → Type 0) (fleet : FleetView) (play : Play) (f
           ap (λ (f : FleetView). told (telling_of shown) fleet (Some (group_hosts f (top was.place.rehearsal) name (group_named f name)))) its_fleet
           ∙ same_group fleet (top was.place.rehearsal) stage here.statuses (same_batches (top was.place.rehearsal).boundary.answer split.here.answer here.answer) shown name (group_named fleet name)
 
-    -- of the fleet of the texts the same is told to each command
+    -- for the fleet of the files, each command gives the same answer
     alike : (shown : Form) (command : Command) (now : HistoryView) → now.place.rehearsal ≡ rehearsal → LeadsTo was command now
         → told (telling_of shown) fleet (answer_to was command now) ≡ told (telling_of shown) fleet (answer_of_run fleet (batches_in log) stage was command now)
     alike shown nothing now at to = refl
@@ -183,14 +183,14 @@ module _ (may : Work → Ending → Type 0) (fleet : FleetView) (play : Play) (f
     alike shown quit now at to = refl
     alike shown unknown now at to = refl
 
-    -- and it is that fleet that the session tells of
+    -- and the session reports that fleet
     answers : (command : Command) (now : HistoryView) → now.place.rehearsal ≡ rehearsal → LeadsTo was command now
         → (shown : Form) → text_to (telling_of shown) was command now ≡ told (telling_of shown) fleet (answer_of_run fleet (batches_in log) stage was command now)
     answers command now at to shown =
         let now_fleet : now.place.rehearsal.rules.fleet ≡ fleet = ap (λ (r : RehearsalView). r.rules.fleet) at ∙ ap (λ (r : Rules). r.fleet) of.rules in
         ap (λ (f : FleetView). told (telling_of shown) f (answer_to was command now)) now_fleet ∙ alike shown command now at to
 
--- so a run goes as answered
+-- so a run matches the answer
 pub goes_as_answered : (may : Work → Ending → Type 0) (fleet : FleetView) (play : Play) (forks : ℕ) (statuses : List Status) (vars : List Vars) (run : Run) (log : List Event)
     → IsRun may fleet (roll_by fleet play forks statuses vars) run log → (columns : Columns) (was : HistoryView) (command : Command) (now : HistoryView)
     → IsRehearsalOf fleet play statuses was.place.rehearsal → IsRehearsalOf fleet play statuses now.place.rehearsal

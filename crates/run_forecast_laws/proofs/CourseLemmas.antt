@@ -1,4 +1,4 @@
--- Runs of a file of plays take the courses in which hosts fail as in them.
+-- Runs of a file of plays match the forecasts with their failures.
 use Rattle.std.proofs.Common.{◌≡◌, ℕ, ◌+◌, Some, List, [], ◌∷◌, map, refl, subst}
 use Rattle.domains.specs.FleetViews.{FleetView}
 use Rattle.fleet_states.specs.Batches.{Fails}
@@ -26,7 +26,7 @@ use Rattle.rehearse.specs.CourseTexts.{play_by, setting_by}
 use Rattle.run_forecast_laws.proofs.EndLemmas.{all_leave, end_so}
 use Rattle.run_forecast_laws.specs.Courses.{FailLater, FailTheirs, RunsOpenTheirCourses}
 
--- what follows a course holds still where less is said of it
+-- what follows a forecast still holds if it is weakened
 goes_on : (end : End) (rest : List Course) {One Other : Type 0} → (One → Other) → GoesOn end rest One → GoesOn end rest Other
 goes_on Finished rest then goes = then goes
 goes_on Held rest then goes = goes
@@ -35,7 +35,7 @@ goes_on (TooManyFailed step failed size) rest then goes = goes
 goes_on AllFailed rest then goes = goes
 
 module _ (columns : ℕ → Columns) (fails : Fails) (fleet : FleetView) (forks : ℕ) where
-  -- later plays, in which the hosts of the batches that are behind them failed so
+  -- later plays, where the hosts of the batches that have ended failed as specified
   later_by : (number : ℕ) (plays : List Play) (before : Run) (runs : List Run) (statuses : List Status) → FailLater columns fails fleet forks number plays before runs
       → AreLaterCourses (settings_after columns fleet forks number plays before runs) statuses (map course_of runs) → AreLaterCourses (map (play_by fleet fails) plays) statuses (map course_of runs)
   later_by number [] before runs statuses fail are = are
@@ -50,7 +50,7 @@ module _ (may : Work → Ending → Type 0) (columns : ℕ → Columns) (fails :
   abbrev as_told : Setting
   as_told = setting_of fleet (roll_by fleet first forks statuses vars) (columns 0)
 
-  -- the courses of runs, where the same hosts would fail in each play
+  -- the forecasts of runs, if the same hosts would fail in each play
   by_these : (run : Run) (rest : List Run) → FailTheirs columns fails fleet forks (first ∷ later) statuses vars (run ∷ rest)
       → AreCourses as_told (settings_after columns fleet forks 1 later run rest) statuses (map course_of (run ∷ rest))
       → AreCourses (setting_by fleet fails first) (map (play_by fleet fails) later) statuses (map course_of (run ∷ rest))

@@ -1,4 +1,4 @@
--- Runs end as their courses do.
+-- Runs end as their forecasts do.
 use Rattle.std.proofs.Common.{◌≡◌, ℕ, ◌+◌, List, [], ◌∷◌, ◌++◌, map, refl, sym, ap, ◌∙◌, subst}
 use Rattle.domains.specs.FleetViews.{FleetView}
 use Rattle.fleet_states.specs.declared.status.Status.{Status}
@@ -26,7 +26,7 @@ last_of : (statuses : List Status) (behind : List Boundary) (last : Boundary) �
 last_of statuses [] last = refl
 last_of statuses (boundary ∷ behind) last = last_of boundary.statuses.items behind last
 
--- each of the runs leaves the statuses with which its course ends
+-- each of the runs leaves the statuses with which its forecast ends
 abbrev pub LeaveTheirs : List Run → Type 0
 LeaveTheirs [] = Unit {0}
 LeaveTheirs (run ∷ runs) = (last_statuses [] run.boundaries.items ≡ run.statuses.items) × LeaveTheirs runs
@@ -65,7 +65,7 @@ module _ (may : Work → Ending → Type 0) (columns : ℕ → Columns) (fleet :
             later_leave 1 others its more logs follow same.1,
           )
 
--- runs that took courses end as the last of these does
+-- runs that match forecasts end as the last of these does
 pub end_so : (courses : List Course) (runs : List Run) (end : CourseEnd) → AreSameCourses courses (map course_of runs) → LeaveTheirs runs → IsEndOf courses end → EndSo runs end
 end_so courses runs end same leave is =
     by is.before runs (subst (λ (l : List Course). AreSameCourses l (map course_of runs)) is.are same) leave

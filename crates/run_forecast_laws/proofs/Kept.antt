@@ -1,4 +1,4 @@
--- Each answer of a session is kept by the runs of the same two texts.
+-- The runs of the same two files match each answer of a session.
 use Rattle.std.proofs.Common.{◌≡◌, ℕ, List, [], ◌∷◌, ◌++◌, inl, inr, sym, ◌∙◌, subst}
 use Rattle.domains.specs.FleetViews.{FleetView}
 use Rattle.fleet_states.specs.declared.status.Status.{Status}
@@ -36,7 +36,7 @@ use Rattle.run_forecast_laws.proofs.OnePlay.{rehearsal_of_both}
 use Rattle.run_forecast_laws.proofs.Splits.{opens_as_far}
 use Rattle.run_forecast_laws.proofs.Texts.{is_as_rehearsed}
 
--- wherever a session on two texts stands, there stands a rehearsal of the play that a run of them begins with
+-- every state of a session on two files is a rehearsal of the play with which a run of them starts
 module _ (inventory playbook : List ℕ) (fleet : FleetView) (vars : List Vars) (plays : List Play) (statuses : List Status) (inputs : AreInputs inventory playbook fleet vars plays statuses)
     (play : Play) (later : List Play) (plays_are : plays ≡ play ∷ later) (before : RehearsalView) (opening : IsOpeningIn inventory playbook before) where
   rehearses : (tell : Telling) (lines : List (List ℕ)) (text : List ℕ) (now : HistoryView) → Session tell (unbegun before) lines text now → IsRehearsalOf fleet play statuses now.place.rehearsal
@@ -71,7 +71,7 @@ no_log : (log : List Event) (others : List (List Event)) → [] ≡ log ∷ othe
 no_log log others same = absurd (cc)
 
 module _ (may : Work → Ending → Type 0) (fleet : FleetView) (play : Play) (forks : ℕ) (statuses : List Status) (vars : List Vars) (columns : Columns) (log : List Event) where
-  -- the run of the first play was broken off
+  -- the run of the first play was interrupted
   as_far : (last : RunFault) (now : HistoryView) → IsBrokenOff may fleet (roll_by fleet play forks statuses vars) last log → IsRehearsalOf fleet play statuses now.place.rehearsal
       → EndAsNamed (roll_by fleet play forks statuses vars) log columns now.place.rehearsal → GoesAsFar last log now
   as_far last now broken of named =
@@ -82,7 +82,7 @@ module _ (may : Work → Ending → Type 0) (fleet : FleetView) (play : Play) (f
       opens_as_far rehearsal.first rehearsal.above was.behind was.rest (subst (AreSameSoFar (boundaries_of rehearsal)) was.boundaries_are so_far) in
       record { opened = subst (AreSameBatches (batches_to rehearsal.first rehearsal.above)) (sym was.batches) opened; boundaries = so_far }
 
-  -- or it came to its end, and a later one was
+  -- or it ended, and a later one was interrupted
   to_break : (later : List Play) (done : List Run) (last : RunFault) (logs others : List (List Event)) (was : HistoryView) (command : Command) (now : HistoryView)
       → AreBrokenOff may fleet forks play later statuses vars done last logs → logs ≡ log ∷ others → IsRehearsalOf fleet play statuses was.place.rehearsal
       → IsRehearsalOf fleet play statuses now.place.rehearsal → EndAsNamed (roll_by fleet play forks statuses vars) log columns now.place.rehearsal → LeadsTo was command now

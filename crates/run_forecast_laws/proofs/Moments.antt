@@ -1,4 +1,4 @@
--- What holds of each line that follows on a session holds of each answer of a session.
+-- What holds for each next line of a session holds for each answer of it.
 use Rattle.std.proofs.Common.{◌⊎◌, inl, inr, ℕ, Bool, Option, Result, Ok, Err, List, [], ◌∷◌, ◌++◌, map, refl}
 use Rattle.rehearse.specs.Answers.{LeadsTo, text_to}
 use Rattle.rehearse.specs.Commands.{Command, command_in}
@@ -21,7 +21,7 @@ one_more tell start lines text was line now session to =
     session_on tell start lines text was (line ∷ []) (text_to tell was (command_in line) now) now session
     (session_of was line (text_to tell was (command_in line) now) now (record { text_is = refl; leads = to }))
 
--- `Is` holds of each line that follows on a session that began there
+-- `Is` holds for each next line of a session that started there
 abbrev pub HoldsNext : Telling → (HistoryView → Command → HistoryView → Type 0) → HistoryView → Type 0
 HoldsNext tell Is start =
     (lines : List (List ℕ)) (text : List ℕ) (was : HistoryView) → Session tell start lines text was
@@ -61,7 +61,7 @@ module _ (tell : Telling) (Is : HistoryView → Command → HistoryView → Type
   each_ended is_reliable old new out_old out_new LongLine session = each_heard session.ended.bytes session.ended.rest session.text session.ended.after session.ended.heard
   each_ended is_reliable old new out_old out_new (Write fault) session = each_cut old new session.text session.heard
 
--- and so of each of one on two texts, wherever that opens
+-- and likewise for a session on two files, wherever it opens
 module _ (tell : Telling) (Is : HistoryView → Command → HistoryView → Type 0) (inventory playbook : List ℕ)
     (holds : (before : RehearsalView) → IsOpeningIn inventory playbook before → HoldsNext tell Is (unbegun before)) where
   each_of_fault : (is_reliable : Bool) (old new out_old out_new : Option (List ℕ)) (fault : RehearseFault) (said : IsTrueFault tell is_reliable inventory playbook old new out_old out_new fault)

@@ -1,4 +1,4 @@
--- A rehearsal and a run of the same two texts are of one play.
+-- A rehearsal and a run of the same two files have the same play.
 use Rattle.std.proofs.Common.{◌≡◌, ℕ, List, ◌∷◌, length, sym, ap, ◌∙◌, subst}
 use Rattle.std.specs.List.{AllZip}
 use Rattle.std.proofs.lemmas.Option.{same_Some}

@@ -1,4 +1,4 @@
--- A run and its rehearsal go one way.
+-- A run and its rehearsal match.
 use Rattle.std.proofs.Common.{◌≡◌, ℕ, ◌<◌, ◌≤◌, Option, None, Some, List, length, refl, sym, ap, ◌∙◌, subst, arith}
 use Rattle.domains.specs.FleetViews.{FleetView}
 use Rattle.fleet_states.specs.declared.status.Status.{Status}

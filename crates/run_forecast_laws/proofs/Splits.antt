@@ -1,4 +1,4 @@
--- A rehearsal's boundaries among those of a run that goes as rehearsed.
+-- A rehearsal's boundaries among those of a run that matches it.
 use Rattle.std.proofs.Common.{◌≡◌, ℕ, suc, ◌+◌, ◌≤◌, ◌==◌, Option, None, Some, List, [], ◌∷◌, ◌++◌, length, map, take, refl, sym, ap, ap₂, ◌∙◌, length-append, arith}
 use Rattle.std.specs.Prelude.{if◌then◌else◌}
 use Rattle.std.specs.Option.{option_or}
@@ -17,7 +17,7 @@ use Rattle.rehearse.specs.Stacks.{batches_to, top_of}
 use Rattle.rehearse.specs.declared.stage.Stage.{Stage}
 use Rattle.run_forecast_laws.specs.Answered.{AreSameBatches}
 
--- the boundaries of a run that has as many as these stages at least: as many behind, then the one where the uppermost stage stands
+-- the boundaries of a run with at least as many as these stages: those before, and then the one of the uppermost stage
 pub record Splits (first : Stage) (above : List Stage) (boundaries : List Boundary) : Type 0 where
   pub behind : List Boundary
   pub here : Boundary
@@ -49,7 +49,7 @@ splits first (stage ∷ above) (b ∷ boundaries) same long =
 one_batch_more : (boundary other : Boundary) (batches others : List (List ℕ)) → boundary ≡ other → batches ≡ others → next_batch boundary.answer ∷ batches ≡ next_batch other.answer ∷ others
 one_batch_more boundary other batches others same all = ap₂ (λ (b : Boundary) (l : List (List ℕ)). next_batch b.answer ∷ l) same all
 
--- who opened a batch at each boundary but the last opened those of the boundaries behind first
+-- a run that opened a batch at each boundary except the last opened those of the earlier boundaries first
 pub opens_more : (behind : List Boundary) (here : Boundary) (ahead took : List Boundary) (last : Boundary) → behind ++ here ∷ ahead ≡ took ++ last ∷ []
     → (later : List (List ℕ)) × (opened_batches took ≡ opened_batches behind ++ later)
 opens_more [] here ahead took last same = (opened_batches took, refl)

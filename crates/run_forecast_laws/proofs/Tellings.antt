@@ -1,4 +1,4 @@
--- The same facts are told alike, in either form.
+-- The same facts are reported alike, in either form.
 use Rattle.std.proofs.Common.{◌≡◌, ℕ, ◌+◌, Option, None, Some, List, [], ◌++◌, codes, flat_map, refl, ap₂}
 use Rattle.std.specs.Prelude.{option_map, position}
 use Rattle.fleet_index.specs.NumberLists.{has_number, list_at}
@@ -45,7 +45,7 @@ module _ (fleet : FleetView) where
   same_plan Plain answer other same = same_plan_text answer other same
   same_plan Json answer other same = same_plan_json answer other same
 
-  -- of hosts and the end at two stages with the same statuses
+  -- for hosts and the end at two stages with the same statuses
   module _ (stage other : Stage) (statuses : stage.boundary.statuses.items ≡ other.boundary.statuses.items) where
     pub same_show : (shown : Form) → stage.end ≡ other.end → told (telling_of shown) fleet (Some (says.show stage)) ≡ told (telling_of shown) fleet (Some (says.show other))
     same_show Plain ends = ap₂ (λ (said : List Status) (end : Option End). status_lines fleet said ++ end_so_far fleet end) statuses ends
@@ -53,7 +53,7 @@ module _ (fleet : FleetView) where
         ap₂ (λ (said : List Status) (end : Option End). codes "{\"reply\":\"show\",\"hosts\":" ++ (states_json fleet said ++ (codes ",\"end\":" ++ (json.end_so_far fleet end ++ codes "}\n"))))
         statuses ends
 
-    -- of hosts with their batches, where the plan has the same batches too
+    -- for hosts with their batches, if the plan has the same batches too
     module _ (batches : batches_of stage.boundary.answer ≡ batches_of other.boundary.answer) where
       number_in : List (List ℕ) → ℕ → Option ℕ
       number_in planned host = option_map (λ (place : ℕ). place + 1) (position (has_number host) planned)

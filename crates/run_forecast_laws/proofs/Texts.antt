@@ -1,4 +1,4 @@
--- A recap in lines begins as rehearsed.
+-- A recap as text starts as rehearsed.
 use Rattle.std.proofs.Common.{◌≡◌, ℕ, suc, ◌+◌, ◌-◌, ◌<◌, Bool, true, false, nat_lt, Option, None, Some, List, [], ◌∷◌, ◌++◌, codes, length, refl, sym, ap, ap₂, ◌∙◌, append_assoc, length-append, arith}
 use Rattle.std.proofs.lemmas.Bool.{lt-ltb}
 use Rattle.domains.specs.FleetViews.{FleetView}
@@ -49,7 +49,7 @@ headed_on true number text more =
     ∙ sym (append_assoc (field_text (codes "play ") number) (codes "\n" ++ text) more)
 headed_on false number text more = refl
 
--- the same boundaries have the same lines, where as many open their batches
+-- the same boundaries have the same lines, if as many open their batches
 module _ (fleet : FleetView) where
   same_open : (answer other : Answer) (opened : Bool) → IsSameAnswer answer other → open_line fleet answer opened ≡ open_line fleet other opened
   same_open answer other true same = ap (names_line (codes "open:") fleet) (same_next answer other same)
@@ -116,7 +116,7 @@ module _ (may : Work → Ending → Type 0) (fleet : FleetView) (play : Play) (f
       (sym (same_pieces fleet many opened 0 (boundaries_behind rehearsal) its.behind its.same_behind
       (λ at within. lt-ltb at many (omega (arith, within, many_behind)) ∙ sym (lt-ltb at opened (omega (arith, within, many_behind, many_opened))))))
 
-  -- where it has ended
+  -- if it has ended
   module _ (none : its.ahead ≡ []) where
     last_opened : opened ≡ many
     last_opened =

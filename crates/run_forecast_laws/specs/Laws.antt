@@ -1,4 +1,4 @@
--- Runs go as they were rehearsed.
+-- Runs match their rehearsals.
 use Rattle.std.specs.Prelude.{◌≡◌, ◌≤◌, ℕ, Option, None, Some, List, length}
 use Rattle.domains.specs.FleetViews.{FleetView}
 use Rattle.fleet_states.specs.declared.status.Status.{Status}
@@ -20,11 +20,11 @@ use Rattle.rehearse.specs.RehearsalLaws.{FailAsNamed}
 use Rattle.rehearse.specs.Plays.{IsRehearsalOf}
 use Rattle.rehearse.specs.Stacks.{RehearsalView, boundaries_of, top}
 
--- in the batches by which it advanced the programs ended so that just the hosts fail that were named, at the first step
+-- in the batches that the rehearsal passed, the programs ended so that exactly the named hosts fail, at the first step
 abbrev pub EndAsNamed : Roll → List Event → Columns → RehearsalView → Type 0
 EndAsNamed roll log columns rehearsal = Tells columns roll log × FailAsNamed (fails_by roll columns) rehearsal.first rehearsal.above
 
--- a rehearsal that has come to an end has all boundaries of the run, and its end
+-- a rehearsal that has ended has all boundaries of the run, and its end
 abbrev pub EndsSo : Option End → List Boundary → List Boundary → End → Type 0
 EndsSo None rehearsed boundaries end = Unit {0}
 EndsSo (Some other) rehearsed boundaries end = AreSameBoundaries rehearsed boundaries × (other ≡ end)
@@ -35,7 +35,7 @@ pub record GoesAsRehearsed (rehearsal : RehearsalView) (boundaries : List Bounda
   pub first : length (boundaries_of rehearsal) ≤ length boundaries
   pub ends : EndsSo (top rehearsal).end (boundaries_of rehearsal) boundaries end
 
--- a run of the play whose hosts fail as they were named goes as rehearsed, with any number of workers
+-- a run of the play whose hosts fail as they were named matches the rehearsal, with any number of workers
 abbrev pub RunsGoAsRehearsed : (Work → Ending → Type 0) → Type 0
 RunsGoAsRehearsed may =
     (fleet : FleetView) (play : Play) (forks : ℕ) (statuses : List Status) (vars : List Vars) (run : Run) (log : List Event) → IsRun may fleet (roll_by fleet play forks statuses vars) run log
@@ -44,7 +44,7 @@ RunsGoAsRehearsed may =
     → (columns : Columns) → EndAsNamed (roll_by fleet play forks statuses vars) log columns rehearsal
     → GoesAsRehearsed rehearsal run.boundaries.items run.end
 
--- and so does one that a fault broke off, as far as it came
+-- and so does an interrupted one, as far as it came
 abbrev pub BrokenRunsGoAsRehearsed : (Work → Ending → Type 0) → Type 0
 BrokenRunsGoAsRehearsed may =
     (fleet : FleetView) (play : Play) (forks : ℕ) (statuses : List Status) (vars : List Vars) (fault : RunFault) (log : List Event) → IsBrokenOff may fleet (roll_by fleet play forks statuses vars) fault log

@@ -1,4 +1,4 @@
-//! That runs go as rehearsed, as a rehearsal's answers say, and as their course says.
+//! Runs match their rehearsals, the answers of these, and their forecasts.
 #![tactic(auto)]
 
 mod laws;

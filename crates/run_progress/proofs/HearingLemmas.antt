@@ -1,4 +1,4 @@
--- What a teller gives out of what it hears, by how much is wanted.
+-- What a progress reporter sends for its notifications, by mode.
 use Rattle.std.proofs.Common.{◌≡◌, ℕ, List, Option, Result, sym, subst}
 use Rattle.bounded_io.specs.declared.write_fault.WriteFault.{WriteFault}
 use Rattle.domains.specs.FleetViews.{FleetView}

@@ -1,4 +1,4 @@
--- What is told above the one line of a run at a terminal.
+-- What appears above the status line on a terminal.
 use Rattle.std.specs.Prelude.{Bool, false, ◌||◌, is_some, if◌then◌else◌, List, ℕ, [], ◌++◌}
 use Rattle.domains.specs.FleetViews.{FleetView}
 use Rattle.domains.specs.Numbered.{host_at}
@@ -9,7 +9,7 @@ use Rattle.run_progress.specs.Options.{is_taken_for_an_option}
 use Rattle.run_progress.specs.Tellings.{gate_text, telling_text, warning_text}
 use Rattle.run_progress.specs.declared.timing.Timing.{Timing}
 
--- a warning comes, or a row that is judged failed
+-- a warning is due, or a row is judged failed
 abbrev pub is_above : FleetView → Telling → Bool
 is_above fleet (aside hosts) = false
 is_above fleet (opening batch statuses) = false
@@ -17,7 +17,7 @@ is_above fleet (begin work) = is_taken_for_an_option (host_at fleet.hosts work.h
 is_above fleet (row host step ending unknown verdict) = is_failed verdict
 is_above fleet (closing batch statuses halt) = false
 
--- of what happens the warning alone, or the whole row
+-- only the warning of an event, or the complete row
 abbrev pub above_text : FleetView → Play → Telling → Timing → List ℕ
 above_text fleet play (aside hosts) given = []
 above_text fleet play (opening batch statuses) given = []
@@ -26,7 +26,7 @@ above_text fleet play (row host step ending unknown verdict) given =
     if is_failed verdict then telling_text fleet play (row host step ending unknown verdict) given else []
 above_text fleet play (closing batch statuses halt) given = []
 
--- something is told above the line: that, or the line of descriptors
+-- something appears above the line: that, or the line about descriptors
 abbrev pub tells_above : FleetView → Telling → Timing → Bool
 tells_above fleet telling given = is_some given.bounds || is_above fleet telling
 

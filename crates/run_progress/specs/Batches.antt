@@ -1,4 +1,4 @@
--- What is told of a batch.
+-- What is reported about a batch.
 use Rattle.std.specs.Prelude.{ℕ, Bool, true, false, Option, List, ◌++◌, codes, count_by}
 use Rattle.domains.specs.FleetViews.{FleetView}
 use Rattle.fleet_states.specs.declared.status.Status.{Status}
@@ -45,11 +45,11 @@ is_halted Halted = true
 is_halted Off = false
 is_halted Held = false
 
--- what becomes of a host once the batch is closed that halted at this step, or at none
+-- the status of a host after its batch is closed, which halted at this step, or at none
 abbrev pub status_after : Option ℕ → List Status → ℕ → Status
 status_after halt statuses host = at_rest halt (status_at statuses host)
 
--- of how many hosts of a batch this becomes
+-- how many hosts of a batch get such a status
 abbrev pub count_after : (Status → Bool) → Option ℕ → List Status → List ℕ → ℕ
 count_after test halt statuses batch = count_by (λ host. test (status_after halt statuses host)) batch
 
@@ -60,7 +60,7 @@ counts_text halt statuses batch =
     ++ (field_text (codes " failed=") (count_after is_failed halt statuses batch)
     ++ field_text (codes " halted=") (count_after is_halted halt statuses batch))
 
--- the same, ` ms=N at=N`
+-- likewise, followed by ` ms=N at=N`
 abbrev pub closing_line : List ℕ → List Status → Option ℕ → Timing → List ℕ
 closing_line batch statuses halt given =
     counts_text halt statuses batch

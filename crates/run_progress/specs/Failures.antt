@@ -1,4 +1,4 @@
--- What a log is told of a run: its failures alone.
+-- What a log file shows of a run: only its failures.
 use Rattle.std.specs.Prelude.{ℕ, Bool, false, Option, Result, List, [], ◌++◌, ⊤}
 use Rattle.bounded_io.specs.Sending.{SendsText}
 use Rattle.bounded_io.specs.declared.write_fault.WriteFault.{WriteFault}
@@ -17,7 +17,7 @@ use Rattle.run_progress.specs.declared.evidence.LastLine.{LastLine}
 use Rattle.run_progress.specs.declared.timing.Timing.{Timing}
 use Rattle.terminal_text.specs.Texts.{output_text}
 
--- a row that is judged failed, so that the host goes no further
+-- a row that is judged failed, so that the host runs no further step
 abbrev pub is_failure : Telling → Bool
 is_failure (aside hosts) = false
 is_failure (opening batch statuses) = false
@@ -25,7 +25,7 @@ is_failure (begin work) = false
 is_failure (row host step ending unknown verdict) = is_failed verdict
 is_failure (closing batch statuses halt) = false
 
--- the row's line, and below it what the program said last, or why none was started
+-- the row's line, followed by the last line the program wrote, or by why none was started
 abbrev pub failure_text : Name → ℕ → List ℕ → Ending → Option Name → Judged → Timing → LastLine → List ℕ
 failure_text host step name ending unknown verdict given said =
     row_line host step name ending unknown verdict given
@@ -39,7 +39,7 @@ failed_text fleet play (row host step ending unknown verdict) given said =
     failure_text (host_at fleet.hosts host) (number_of step) (name_at play step) ending unknown verdict given said
 failed_text fleet play (closing batch statuses halt) given said = []
 
--- the program of this row said that last
+-- the program of this row wrote that last
 abbrev pub IsSaidIn : Telling → LastLine → Type 0
 IsSaidIn (aside hosts) said = ⊤
 IsSaidIn (opening batch statuses) said = ⊤
@@ -47,7 +47,7 @@ IsSaidIn (begin work) said = ⊤
 IsSaidIn (row host step ending unknown verdict) said = IsSaid ending said
 IsSaidIn (closing batch statuses halt) said = ⊤
 
--- the text of the row was given out, with some times and a remark; `sent` is how it went out
+-- the text of the row was sent, with some times and an exit detail; `sent` is how far it was written
 pub record SendsFailure (fleet : FleetView) (play : Play) (telling : Telling) (old new : Option (List ℕ)) (sent : Result (Unit {0}) WriteFault) : Type 0 where
   pub given : Timing
   pub said : LastLine

@@ -1,4 +1,4 @@
--- What is told, in words or as objects of JSON.
+-- What is reported, as text or as JSON objects.
 use Rattle.std.specs.Prelude.{ℕ, List}
 use Rattle.domains.specs.FleetViews.{FleetView}
 use Rattle.play_model.specs.declared.play.Play.{Play}
@@ -14,12 +14,12 @@ abbrev pub told_as : Form → FleetView → Play → Telling → Timing → List
 told_as Plain fleet play telling given = told_text fleet play telling given
 told_as Json fleet play telling given = told_json fleet play telling given
 
--- the number of the play that begins
+-- the number of the play that starts
 abbrev pub play_as : Form → ℕ → ℕ → List ℕ
 play_as Plain number plays = play_text number plays
 play_as Json number plays = play_json number plays
 
--- lines of others
+-- lines from elsewhere
 abbrev pub lines_as : Form → List ℕ → List ℕ
 lines_as Plain lines = lines
 lines_as Json lines = notes_json lines

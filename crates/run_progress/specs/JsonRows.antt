@@ -1,4 +1,4 @@
--- The row of a step on a host as an object of JSON.
+-- The row of a step on a host as a JSON object.
 use Rattle.std.specs.Prelude.{ℕ, ℤ, Option, Some, None, string_bytes, if◌then◌else◌, List, [], ◌++◌, codes}
 use Rattle.group_tree.specs.Names.{Name}
 use Rattle.host_track.specs.Endings.{Ending, ran, not_started, lost, skipped, undefined}
@@ -31,12 +31,12 @@ signal_json Nothing = []
 signal_json (Signal number) = number_json number
 signal_json (Refused said) = []
 
--- where a name had no value
+-- if a name had no value
 abbrev pub undefined_json : Option Name → List ℕ
 undefined_json None = []
 undefined_json (Some name) = codes ",\"undefined\":" ++ string_json name
 
--- where it is known
+-- if it is known
 abbrev pub took_json : Option ℕ → List ℕ
 took_json None = []
 took_json (Some milliseconds) = field_text (codes ",\"ms\":") milliseconds
@@ -48,7 +48,7 @@ ran_json rc unknown given = code_json rc ++ (signal_json given.remark ++ (undefi
 abbrev pub tried_json : List ℕ → Timing → List ℕ
 tried_json word given = word ++ took_json given.milliseconds
 
--- how the step ended: its program, or for want of which name none was run
+-- how the step ended: its program, or the undefined name for which none was run
 abbrev pub how_json : Ending → Option Name → Timing → List ℕ
 how_json (ran rc stdout stderr) unknown given = ran_json rc unknown given
 how_json not_started unknown given = tried_json (codes ",\"not_started\":true") given
@@ -62,7 +62,7 @@ both_members stdout stderr = output_json (codes ",\"stdout\":[\"") stdout ++ out
 abbrev pub both_json : Judged → List ℕ → List ℕ → List ℕ
 both_json verdict stdout stderr = if shows_outputs verdict then both_members stdout stderr else []
 
--- what is kept of the outputs of a program, where they are shown
+-- what is kept of a program's outputs, if they are shown
 abbrev pub outputs_json : Ending → Judged → List ℕ
 outputs_json (ran rc stdout stderr) verdict = both_json verdict stdout stderr
 outputs_json not_started verdict = []
@@ -70,7 +70,7 @@ outputs_json lost verdict = []
 outputs_json skipped verdict = []
 outputs_json (undefined name) verdict = []
 
--- what the system said of a program that it didn't start
+-- the error with which the operating system refused to start a program
 abbrev pub refusal_json : ExitDetail → List ℕ
 refusal_json Nothing = []
 refusal_json (Signal number) = []
@@ -79,7 +79,7 @@ refusal_json (Refused said) = error_member (string_bytes said)
 abbrev pub too_long_json : List ℕ
 too_long_json = error_member (codes "a word is longer than 65536 bytes")
 
--- why a program was not started: the system refused it, or none was tried, since a word of it is too long
+-- why a program was not started: the operating system refused it, or it was not tried, since an argument is too long
 abbrev pub why_not_json : Timing → List ℕ
 why_not_json given = if given.was_tried then refusal_json given.remark else too_long_json
 
@@ -95,7 +95,7 @@ abbrev pub row_front : Name → ℕ → Judged → List ℕ
 row_front host step verdict =
     codes "{\"event\":\"ends\",\"host\":" ++ (string_json host ++ (field_text (codes ",\"step\":") step ++ verdict_json verdict))
 
--- the same, how the step ended, its name, its outputs and why its program wasn't started
+-- likewise, followed by how the step ended, its name, its outputs and why its program wasn't started
 abbrev pub row_json : Name → ℕ → List ℕ → Ending → Option Name → Judged → Timing → List ℕ
 row_json host step name ending unknown verdict given =
     row_front host step verdict

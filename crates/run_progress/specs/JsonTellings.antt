@@ -1,4 +1,4 @@
--- What is told of a run while it goes on, as objects of JSON: one on a line for each thing that happens.
+-- What is reported during a run, as JSON objects: one per line for each event.
 use Rattle.std.specs.Prelude.{ℕ, ◌-◌, ◌==◌, nat_lt, Option, Some, None, if◌then◌else◌, List, [], ◌∷◌, ◌++◌, codes, count_by, length, slice_index_or, take}
 use Rattle.domains.specs.FleetViews.{FleetView}
 use Rattle.domains.specs.Numbered.{host_at}
@@ -21,7 +21,7 @@ use Rattle.terminal_text.specs.Texts.{escaped_text}
 abbrev pub held_object : FleetView → List ℕ → List ℕ
 held_object fleet hosts = codes "{\"event\":\"held\"" ++ hosts_json fleet hosts
 
--- the same, where hosts were set aside
+-- likewise, if hosts were held
 abbrev pub held_json : FleetView → List ℕ → List ℕ
 held_json fleet [] = []
 held_json fleet (host ∷ hosts) = held_object fleet (host ∷ hosts)
@@ -37,7 +37,7 @@ abbrev pub begin_front : Name → ℕ → Timing → List ℕ
 begin_front host step given =
     codes "{\"event\":\"begins\",\"host\":" ++ (string_json host ++ (field_text (codes ",\"step\":") step ++ field_text (codes ",\"at\":") given.since_run))
 
--- a warning where the program may take the host's name for an option
+-- a warning if the program might take the host's name for an option
 abbrev pub warning_json : Name → List (List ℕ) → List ℕ
 warning_json host words = if is_taken_for_an_option host words then codes ",\"warning\":" ++ string_json warning else []
 
@@ -45,7 +45,7 @@ abbrev pub begin_object : Name → ℕ → List ℕ → List (List ℕ) → Timi
 begin_object host step name words given =
     begin_front host step given ++ (name_json name ++ (warning_json host words ++ codes "}\n"))
 
--- the program of this work is to begin
+-- the program of this work is about to start
 abbrev pub begin_json : FleetView → Play → Work → Timing → List ℕ
 begin_json fleet play work given =
     begin_object (host_at fleet.hosts work.host) (number_of work.step) (name_at play work.step) work.words given
@@ -57,13 +57,13 @@ counts_json halt statuses batch =
     ++ (field_text (codes ",\"failed\":") (count_after is_failed halt statuses batch)
     ++ field_text (codes ",\"halted\":") (count_after is_halted halt statuses batch))
 
--- the same, `,"ms":N,"at":N}`
+-- likewise, followed by `,"ms":N,"at":N}`
 abbrev pub closing_json : List ℕ → List Status → Option ℕ → Timing → List ℕ
 closing_json batch statuses halt given =
     counts_json halt statuses batch
     ++ (field_text (codes ",\"ms\":") given.since_batch ++ (field_text (codes ",\"at\":") given.since_run ++ codes "}\n"))
 
--- what is told, where these times and this remark are given
+-- what is reported, given these times and this exit detail
 abbrev pub telling_json : FleetView → Play → Telling → Timing → List ℕ
 telling_json fleet play (aside hosts) given = held_json fleet hosts
 telling_json fleet play (opening batch statuses) given = opening_json fleet batch statuses given
@@ -77,12 +77,12 @@ abbrev pub gate_object : ℕ → ℕ → List ℕ
 gate_object descriptors most =
     field_text (codes "{\"event\":\"descriptors\",\"limit\":") descriptors ++ (field_text (codes ",\"at_once\":") most ++ codes "}\n")
 
--- the same, where it is due
+-- likewise, if it is due
 abbrev pub gate_json : Option (ℕ × ℕ) → List ℕ
 gate_json None = []
 gate_json (Some bounds) = gate_object bounds.0 bounds.1
 
--- the object of descriptors, where it is due, and what is told behind it
+-- the object about descriptors, if it is due, followed by what is reported
 abbrev pub told_json : FleetView → Play → Telling → Timing → List ℕ
 told_json fleet play telling given = gate_json given.bounds ++ telling_json fleet play telling given
 
@@ -90,11 +90,11 @@ told_json fleet play telling given = gate_json given.bounds ++ telling_json flee
 abbrev pub play_object : ℕ → List ℕ
 play_object number = field_text (codes "{\"event\":\"play\",\"play\":") number ++ codes "}\n"
 
--- the same, where there are several
+-- likewise, if there are several
 abbrev pub play_json : ℕ → ℕ → List ℕ
 play_json number plays = if nat_lt 1 plays then play_object number else []
 
--- lines without the line feed that ends the last one
+-- lines without the line feed at their end
 abbrev pub without_end : List ℕ → List ℕ
 without_end lines = if slice_index_or lines (length lines - 1) 0 == 10 then take (length lines - 1) lines else lines
 

@@ -1,4 +1,4 @@
--- How much is told of a run.
+-- How much of a run is reported.
 use Rattle.std.specs.Prelude.{◌≡◌, Bool, true, false, not, if◌then◌else◌}
 use Rattle.run_progress.specs.declared.form.Form.{Form}
 use Rattle.run_progress.specs.declared.form.Form.TheVariants.{Plain, Json}
@@ -8,7 +8,7 @@ use Rattle.run_progress.specs.declared.mode.Seen.{Seen}
 use Rattle.run_progress.specs.declared.screen.Screen.{Screen}
 use Rattle.run_progress.specs.Screens.{blank}
 
--- the failures alone, for a log
+-- only the failures, for a log file
 abbrev pub failures_mode : Bool → Mode
 failures_mode is_json = if is_json then Failures Json else Failures Plain
 
@@ -20,7 +20,7 @@ mode_of seen =
     if seen.is_verbose then lines_mode seen.is_json
     else (if seen.is_quiet then Nothing else (if seen.is_terminal then OneLine else failures_mode seen.is_json))
 
--- anything is told
+-- anything is reported
 abbrev pub tells : Mode → Bool
 tells Nothing = false
 tells (Failures form) = true
@@ -28,7 +28,7 @@ tells OneLine = true
 tells AllLines = true
 tells AllJson = true
 
--- so is what is no failure, such as which hosts are left out
+-- messages other than failures are reported, such as which hosts are skipped
 abbrev pub tells_notes : Mode → Bool
 tells_notes Nothing = false
 tells_notes (Failures form) = false
@@ -36,7 +36,7 @@ tells_notes OneLine = true
 tells_notes AllLines = true
 tells_notes AllJson = true
 
--- a line for each thing that happens is
+-- a line is reported for each event
 abbrev pub tells_lines : Mode → Bool
 tells_lines Nothing = false
 tells_lines (Failures form) = false
@@ -44,7 +44,7 @@ tells_lines OneLine = false
 tells_lines AllLines = true
 tells_lines AllJson = true
 
--- what it is written as
+-- its form
 abbrev pub form_of : Mode → Form
 form_of Nothing = Plain
 form_of (Failures form) = form
@@ -52,7 +52,7 @@ form_of OneLine = Plain
 form_of AllLines = Plain
 form_of AllJson = Json
 
--- as much is told as is wanted where it is seen so, and nothing is drawn yet
+-- as much is reported as the settings require, and nothing is drawn yet
 pub record TellsAs (mode : Mode) (screen : Screen) (seen : Seen) : Type 0 where
   pub mode_is : mode ≡ mode_of seen
   pub screen_is : screen ≡ blank seen.width (not seen.is_dumb)

@@ -1,4 +1,4 @@
--- What is told of the row of a step on a host.
+-- What is reported about the row of a step on a host.
 use Rattle.std.specs.Prelude.{ℕ, ℤ, Bool, true, false, Option, Some, None, option_map, string_bytes, if◌then◌else◌, List, [], ◌++◌, codes}
 use Rattle.std.specs.Borrow.{Bor}
 use Rattle.group_tree.specs.Names.{Name}
@@ -33,16 +33,16 @@ signal_text Nothing = []
 signal_text (Signal number) = number_text number
 signal_text (Refused said) = []
 
--- the name, where there is one
+-- the name, if there is one
 abbrev pub name_in : Option (Bor (List ℕ)) → Option Name
 name_in name = option_map (λ (bytes : Bor (List ℕ)). bytes.now) name
 
--- ` undefined=NAME`, where a name had no value
+-- ` undefined=NAME`, if a name had no value
 abbrev pub undefined_text : Option Name → List ℕ
 undefined_text None = []
 undefined_text (Some name) = codes " undefined=" ++ name
 
--- ` ms=N`, where it is known
+-- ` ms=N`, if it is known
 abbrev pub took_text : Option ℕ → List ℕ
 took_text None = []
 took_text (Some milliseconds) = field_text (codes " ms=") milliseconds
@@ -53,7 +53,7 @@ ran_text rc unknown given = code_text rc ++ (signal_text given.remark ++ (undefi
 abbrev pub tried_text : List ℕ → Timing → List ℕ
 tried_text word given = word ++ took_text given.milliseconds
 
--- how the step ended: its program, or for want of which name none was run
+-- how the step ended: its program, or the undefined name for which none was run
 abbrev pub how_text : Ending → Option Name → Timing → List ℕ
 how_text (ran rc stdout stderr) unknown given = ran_text rc unknown given
 how_text not_started unknown given = tried_text (codes " not-started") given
@@ -70,7 +70,7 @@ abbrev pub row_line : Name → ℕ → List ℕ → Ending → Option Name → J
 row_line host step name ending unknown verdict given =
     host ++ (field_text (codes " step=") step ++ (verdict_text verdict ++ (how_text ending unknown given ++ name_text name)))
 
--- a failure shows its outputs, also one that is ignored
+-- a failure shows its outputs, even if it is ignored
 abbrev pub shows_outputs : Judged → Bool
 shows_outputs (judged.Ok changed) = false
 shows_outputs (judged.Ignored changed) = true
@@ -81,7 +81,7 @@ abbrev pub both_text : Name → Judged → List ℕ → List ℕ → List ℕ
 both_text host verdict stdout stderr =
     if shows_outputs verdict then output_text host (codes "stdout") stdout ++ output_text host (codes "stderr") stderr else []
 
--- what is kept of the outputs of a program, where they are shown
+-- what is kept of a program's outputs, if they are shown
 abbrev pub outputs_text : Name → Ending → Judged → List ℕ
 outputs_text host (ran rc stdout stderr) verdict = both_text host verdict stdout stderr
 outputs_text host not_started verdict = []
@@ -89,7 +89,7 @@ outputs_text host lost verdict = []
 outputs_text host skipped verdict = []
 outputs_text host (undefined name) verdict = []
 
--- what the system said of a program that it didn't start
+-- the error with which the operating system refused to start a program
 abbrev pub refusal_text : Name → ExitDetail → List ℕ
 refusal_text host Nothing = []
 refusal_text host (Signal number) = []
@@ -98,7 +98,7 @@ refusal_text host (Refused said) = output_text host (codes "error") (string_byte
 abbrev pub too_long_text : Name → List ℕ
 too_long_text host = output_text host (codes "error") (codes "a word is longer than 65536 bytes")
 
--- why a program was not started: the system refused it, or none was tried, since a word of it is too long
+-- why a program was not started: the operating system refused it, or it was not tried, since an argument is too long
 abbrev pub why_not_text : Name → Timing → List ℕ
 why_not_text host given = if given.was_tried then refusal_text host given.remark else too_long_text host
 
@@ -109,7 +109,7 @@ error_text host lost given = []
 error_text host skipped given = []
 error_text host (undefined name) given = []
 
--- the line, and what is told below it
+-- the line, and what follows it
 abbrev pub row_text : Name → ℕ → List ℕ → Ending → Option Name → Judged → Timing → List ℕ
 row_text host step name ending unknown verdict given =
     row_line host step name ending unknown verdict given ++ (outputs_text host ending verdict ++ error_text host ending given)

@@ -1,4 +1,4 @@
--- How long something has taken, in a few characters.
+-- Durations in a few characters.
 use Rattle.std.specs.Prelude.{ℕ, ◌/◌, ◌%◌, nat_lt, if◌then◌else◌, List, ◌++◌, codes, decimal}
 
 -- a number and its unit

@@ -1,4 +1,4 @@
--- The one line of a run at a terminal, which is written over as things go on.
+-- The status line of a run on a terminal, which is rewritten during the run.
 use Rattle.std.specs.Prelude.{ℕ, ◌-◌, nat_lt, if◌then◌else◌, List, [], ◌∷◌, ◌++◌, codes, length, take}
 use Rattle.domains.specs.FleetViews.{FleetView}
 use Rattle.group_tree.specs.declared.ids.HostId.{HostId}
@@ -11,7 +11,7 @@ use Rattle.run_progress.specs.declared.counters.Counters.{Counters}
 abbrev pub place_text : List ℕ → ℕ → ℕ → List ℕ
 place_text word number all = field_text word number ++ (field_text (codes " of ") all ++ codes ", ")
 
--- `play N of N, `, where there are several
+-- `play N of N, `, if there are several
 abbrev pub plays_text : ℕ → ℕ → List ℕ
 plays_text number plays = if nat_lt 1 plays then place_text (codes "play ") number plays else []
 
@@ -23,11 +23,11 @@ updated_text updated hosts = field_text [] updated ++ (field_text (codes " of ")
 abbrev pub failures_text : ℕ → List ℕ
 failures_text failed = field_text (codes ", ") failed ++ codes " failed"
 
--- the same, where any has
+-- likewise, if any host has failed
 abbrev pub failed_text : ℕ → List ℕ
 failed_text failed = if nat_lt 0 failed then failures_text failed else []
 
--- ` +N`, where there are more
+-- ` +N`, if there are more
 abbrev pub more_text : ℕ → List ℕ
 more_text hosts = if nat_lt 0 hosts then field_text (codes " +") hosts else []
 
@@ -39,7 +39,7 @@ on_one fleet host = codes ", on" ++ spaced_name fleet host
 abbrev pub on_more : FleetView → ℕ → ℕ → ℕ → List ℕ
 on_more fleet first second more = on_one fleet first ++ (spaced_name fleet second ++ more_text more)
 
--- where programs are under way: the first two, and how many more
+-- where programs are running: the first two hosts, and how many more
 abbrev pub on_text : FleetView → List HostId → List ℕ
 on_text fleet [] = []
 on_text fleet (first ∷ []) = on_one fleet first.index
@@ -53,7 +53,7 @@ status_text fleet counters hosts seconds =
     ++ (updated_text counters.updated counters.hosts
     ++ (failed_text counters.failed ++ (on_text fleet hosts ++ (codes ", " ++ span_text seconds)))))
 
--- a byte of it is a column: names of hosts have no other characters than ASCII's, and none that moves a terminal about
+-- each byte is one column: names of hosts have only ASCII characters, and no control characters
 abbrev pub cut_text : ℕ → List ℕ → List ℕ
 cut_text width text = take (width - 1) text
 
@@ -61,14 +61,14 @@ cut_text width text = take (width - 1) text
 abbrev pub to_start : List ℕ
 to_start = 13 ∷ []
 
--- away with what stands from here to the end of the line
+-- clears the rest of the line
 abbrev pub to_end : List ℕ
 to_end = 27 ∷ 91 ∷ 75 ∷ []
 
--- over what stands there
+-- replaces the current line
 abbrev pub drawn_text : ℕ → List ℕ → List ℕ
 drawn_text width text = to_start ++ (cut_text width text ++ to_end)
 
--- away with it
+-- clears it
 abbrev pub cleared_text : List ℕ
 cleared_text = to_start ++ to_end

@@ -1,4 +1,4 @@
--- What is told of a run while it goes on: a text for each thing that happens.
+-- What is reported during a run: a text for each event.
 use Rattle.std.specs.Prelude.{ℕ, ◌+◌, min, nat_lt, Option, Some, None, if◌then◌else◌, option_map, string_bytes, unwrap_or, List, [], ◌++◌, codes}
 use Rattle.group_tree.specs.Names.{Name}
 use Rattle.domains.specs.FleetViews.{FleetView}
@@ -16,7 +16,7 @@ use Rattle.run_progress.specs.Rows.{name_text, row_text}
 use Rattle.run_progress.specs.declared.timing.Timing.{Timing}
 use Rattle.terminal_text.specs.Texts.{output_text}
 
--- the name of a step; one that has none is given an empty one
+-- the name of a step, or an empty one if it has none
 abbrev pub step_name : Option Step → List ℕ
 step_name None = []
 step_name (Some step) = unwrap_or (option_map string_bytes step.name) []
@@ -36,21 +36,21 @@ begin_line host step name given =
 abbrev pub warning : List ℕ
 warning = codes "its name stands where an option may: write -- before it"
 
--- a warning where the program may take the host's name for an option
+-- a warning if the program might take the host's name for an option
 abbrev pub warning_text : Name → List (List ℕ) → List ℕ
 warning_text host words = if is_taken_for_an_option host words then output_text host (codes "warning") warning else []
 
--- the program of this work is to begin
+-- the program of this work is about to start
 abbrev pub begun_text : FleetView → Play → Work → Timing → List ℕ
 begun_text fleet play work given =
     begin_line (host_at fleet.hosts work.host) (number_of work.step) (name_at play work.step) given
 
--- the same, and the warning
+-- likewise, followed by the warning
 abbrev pub begin_text : FleetView → Play → Work → Timing → List ℕ
 begin_text fleet play work given =
     begun_text fleet play work given ++ warning_text (host_at fleet.hosts work.host) work.words
 
--- what is told, where these times and this remark are given
+-- what is reported, given these times and this exit detail
 abbrev pub telling_text : FleetView → Play → Telling → Timing → List ℕ
 telling_text fleet play (aside hosts) given = held_line fleet hosts
 telling_text fleet play (opening batch statuses) given = opening_line fleet batch statuses given
@@ -63,12 +63,12 @@ telling_text fleet play (closing batch statuses halt) given = closing_line batch
 abbrev pub gate_line : ℕ → ℕ → List ℕ
 gate_line descriptors most = field_text (codes "descriptors=") descriptors ++ (field_text (codes " at-once=") most ++ codes "\n")
 
--- the same, where it is due
+-- likewise, if it is due
 abbrev pub gate_text : Option (ℕ × ℕ) → List ℕ
 gate_text None = []
 gate_text (Some bounds) = gate_line bounds.0 bounds.1
 
--- the line of descriptors, where it is due, and what is told behind it
+-- the line about descriptors, if it is due, followed by what is reported
 abbrev pub told_text : FleetView → Play → Telling → Timing → List ℕ
 told_text fleet play telling given = gate_text given.bounds ++ telling_text fleet play telling given
 
@@ -76,6 +76,6 @@ told_text fleet play telling given = gate_text given.bounds ++ telling_text flee
 abbrev pub play_line : ℕ → List ℕ
 play_line number = field_text (codes "play ") number ++ codes "\n"
 
--- the same, where there are several
+-- likewise, if there are several
 abbrev pub play_text : ℕ → ℕ → List ℕ
 play_text number plays = if nat_lt 1 plays then play_line number else []

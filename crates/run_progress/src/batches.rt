@@ -1,4 +1,4 @@
-//! What is told of a batch.
+//! What is reported about a batch.
 ghost use Rattle.std.specs.Prelude.{◌≡◌, count_by};
 ghost use Rattle.bounded_io.specs.Writing.{Writes};
 ghost use Rattle.domains.specs.Ids.{host_numbers};
@@ -14,7 +14,7 @@ use group_tree::HostId;
 use recap::{write_field, write_names_line};
 use std::io::Write;
 
-/// How many hosts wait.
+/// Returns how many hosts wait.
 pub(crate) fn count_waiting(statuses: &[Status]) -> usize
     ensures { result ≡ count_by (λ status. is_waiting status) statuses.now }
 {
@@ -55,7 +55,7 @@ fn is_halted(status: Status) -> bool
     matches!(status, Status::Halted)
 }
 
-/// What becomes of a host with this status once its batch is closed, which halted at a step, if at one.
+/// Returns a host's status after its batch is closed, with the step at which the batch halted, if it did.
 fn at_rest(halt: Option<usize>, status: Status) -> Status
     ensures { result ≡ states.at_rest halt status }
 {
@@ -66,14 +66,15 @@ fn at_rest(halt: Option<usize>, status: Status) -> Status
     }
 }
 
-/// What becomes of a host.
+/// Returns the status of a host after its batch is closed.
 fn status_after(statuses: &[Status], halt: Option<usize>, host: HostId) -> Status
     ensures { result ≡ spec.status_after halt statuses.now host.index }
 {
     at_rest(halt, status_of(statuses, host))
 }
 
-/// How many hosts of a batch are updated once it is closed, which halted at a step, if at one. The statuses are as its steps left them.
+/// Returns how many hosts of a batch are updated once it is closed. The statuses are as its steps left them, and `halt` is the step at
+/// which it halted, if it did.
 pub(crate) fn count_updated(batch: &[HostId], statuses: &[Status], halt: Option<usize>) -> usize
     ensures { result ≡ spec.count_after spec.is_updated halt statuses.now (host_numbers batch.now) }
 {
@@ -119,7 +120,7 @@ fn write_counts<W: Write>(
     write_field(text, " halted=", count_halted(batch, statuses, halt) as u64);
 }
 
-/// Writes how many hosts of a batch that is closed are what, and its times.
+/// Writes how many hosts of a closed batch have each status, and its times.
 #[tactic(auto, using(bounded_io::proofs::Pieces::pieces_of_text))]
 pub(crate) fn write_closing<W: Write>(
     text: &mut TextWriter<'_, W>,

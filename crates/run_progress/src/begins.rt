@@ -1,4 +1,4 @@
-//! What is told of a program that is to begin.
+//! What is reported about a program that is about to start.
 ghost use Rattle.std.specs.Prelude.{map, string_bytes};
 ghost use Rattle.bounded_io.specs.Writing.{Writes};
 ghost use Rattle.domains.specs.Numbered.{host_at};
@@ -33,7 +33,7 @@ fn write_begin_line<W: Write>(
     write_name(text, name);
 }
 
-/// Warns of a program that may take the host's name for an option.
+/// Writes a warning if the program might take the host's name for an option.
 #[tactic(auto, using(bounded_io::proofs::Pieces::pieces_of_text))]
 fn write_warning<W: Write>(text: &mut TextWriter<'_, W>, host: &str, words: &[String])
     ensures { Writes W.contents text.old text.new (spec.warning_text host.now (map string_bytes words.now)) }
@@ -43,14 +43,14 @@ fn write_warning<W: Write>(text: &mut TextWriter<'_, W>, host: &str, words: &[St
     }
 }
 
-/// Warns of the program of a job, where it may take the host's name for an option.
+/// Writes a warning if the program of a job might take the host's name for an option.
 pub(crate) fn write_warned<W: Write>(text: &mut TextWriter<'_, W>, fleet: &Fleet, job: &Job)
     ensures { Writes W.contents text.old text.new (spec.warning_text (host_at fleet.now.hosts job.now.host) job.now.words) }
 {
     write_warning(text, host_name(fleet, job.host()), job.words());
 }
 
-/// Writes that the program of a job is to begin.
+/// Writes that the program of a job is about to start.
 fn write_begun<W: Write>(
     text: &mut TextWriter<'_, W>,
     fleet: &Fleet,
@@ -65,7 +65,7 @@ fn write_begun<W: Write>(
     write_begin_line(text, host, step_number(job.step()), name, given);
 }
 
-/// Writes the same, and the warning.
+/// Writes that, and the warning.
 #[tactic(auto, using(bounded_io::proofs::Pieces::pieces_of_text))]
 pub(crate) fn write_begin<W: Write>(
     text: &mut TextWriter<'_, W>,

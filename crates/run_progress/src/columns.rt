@@ -1,4 +1,4 @@
-//! How many columns a terminal has.
+//! The width of a terminal.
 ghost use Rattle.std.specs.Prelude.{◌<◌, ◌≤◌, IfOk, IfSome, length};
 
 use std::alloc::Global;
@@ -7,10 +7,10 @@ use std::io::Read;
 use std::process::{Command, Processes, Stdio, SystemProcess};
 use std::{io, str};
 
-/// Where nothing says how many there are.
+/// The width if nothing states it.
 const USUAL: usize = 80;
 
-/// How many columns the terminal has that standard error is: as many as `COLUMNS` says, or else the program `stty`, or else 80.
+/// Returns the width of the terminal on standard error: the value of `COLUMNS`, otherwise what the program `stty` reports, otherwise 80.
 pub fn width<H: Env + Processes<Started = SystemProcess>>(rt: &H, alloc: Global) -> usize
     ensures { 0 < result }
 {
@@ -23,7 +23,7 @@ pub fn width<H: Env + Processes<Started = SystemProcess>>(rt: &H, alloc: Global)
     }
 }
 
-/// What `COLUMNS` says.
+/// Returns the value of `COLUMNS`.
 fn columns_said<H: Env>(rt: &H) -> Option<usize>
     ensures { IfSome result (λ columns. 0 < columns) }
 {
@@ -34,8 +34,8 @@ fn columns_said<H: Env>(rt: &H) -> Option<usize>
     }
 }
 
-/// What the program `stty` says of standard error: rows and columns. The shell hands it on as it is, since a terminal that another user has opened
-/// can't be opened anew; what goes wrong there is told to nobody.
+/// Returns the width that `stty` reports for standard error, after the number of rows. The shell passes the open descriptor on, because a
+/// terminal that another user has opened can't be opened again. Error messages are discarded.
 fn ask_terminal<H: Processes<Started = SystemProcess>>(
     rt: &H,
     alloc: Global,
@@ -57,7 +57,7 @@ fn ask_terminal<H: Processes<Started = SystemProcess>>(
     Ok(columns_in(&bytes[..len]))
 }
 
-/// Reads as many bytes as there is room for, or to the end.
+/// Reads until the buffer is full or the input ends.
 fn read_some<R: Read>(end: &mut R, bytes: &mut [u8]) -> usize
     ensures { result ≤ length bytes.new }
 {
@@ -71,7 +71,7 @@ fn read_some<R: Read>(end: &mut R, bytes: &mut [u8]) -> usize
     len
 }
 
-/// The second of two numbers.
+/// Returns the second of two numbers.
 fn columns_in(bytes: &[u8]) -> Option<usize>
     ensures { IfSome result (λ columns. 0 < columns) }
 {
@@ -84,7 +84,7 @@ fn columns_in(bytes: &[u8]) -> Option<usize>
     number_in(columns.trim_end().as_bytes())
 }
 
-/// The number that the bytes are, unless that is 0.
+/// Returns the number that the bytes contain, unless it is 0.
 fn number_in(bytes: &[u8]) -> Option<usize>
     ensures { IfSome result (λ number. 0 < number) }
 {

@@ -1,11 +1,11 @@
-//! What is counted of a play while it goes on.
+//! What is counted during a play.
 ghost use Rattle.std.specs.Prelude.{◌≡◌};
 ghost use Rattle.run_progress.specs.Counting as spec;
 
 use host_track::Judged;
 
-/// The number of the play, of so many; the number of the batch that was opened last, of so many; how many of the play's hosts are updated, and how
-/// many have failed.
+/// The number of the play and of all plays, and of the last opened batch and of all batches. Also how many of the play's hosts are updated,
+/// and how many have failed.
 #[derive(Clone, Copy, Debug, PartialEq, Eq)]
 pub(crate) struct Counters {
     pub(crate) play: u64,
@@ -18,7 +18,7 @@ pub(crate) struct Counters {
 }
 
 impl Counters {
-    /// Nothing has happened in this play, of so many. The first one has the number 1.
+    /// Returns the counters at the start of this play, out of `plays` plays. The first play has the number 1.
     pub(crate) fn new(play: u64, plays: u64) -> Counters
         ensures { result ≡ spec.none_of play plays }
     {
@@ -33,7 +33,7 @@ impl Counters {
         }
     }
 
-    /// A batch was opened. With it the plan had so many batches ahead, and of the hosts so many were to be updated before.
+    /// Counts a batch that was opened. The plan had `ahead` batches including it, and `hosts` hosts were waiting before it.
     pub(crate) fn open(&mut self, ahead: u64, hosts: u64)
         ensures { self.new ≡ spec.with_opening ahead hosts self.old }
     {
@@ -45,7 +45,7 @@ impl Counters {
         self.batches = self.batch.max(before.saturating_add(ahead));
     }
 
-    /// A row was judged so.
+    /// Counts a row that was judged.
     pub(crate) fn add_row(&mut self, judged: Judged)
         ensures { self.new ≡ spec.with_row judged self.old }
     {
@@ -54,7 +54,7 @@ impl Counters {
         }
     }
 
-    /// A batch was closed, by which so many hosts are updated.
+    /// Counts a batch that was closed, and the hosts it has updated.
     pub(crate) fn close(&mut self, updated: u64)
         ensures { self.new ≡ spec.with_closing updated self.old }
     {

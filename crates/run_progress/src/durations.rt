@@ -1,4 +1,4 @@
-//! How long something has taken, in a few characters.
+//! Durations in a few characters.
 ghost use Rattle.bounded_io.specs.Writing.{Writes};
 ghost use Rattle.run_progress.specs.Spans as spec;
 
@@ -31,7 +31,7 @@ fn write_minutes<W: Write>(text: &mut TextWriter<'_, W>, minutes: u64)
     }
 }
 
-/// Writes how many seconds, minutes, or hours and minutes these seconds are, rounded down.
+/// Writes these seconds as seconds, minutes, or hours and minutes, rounded down.
 pub(crate) fn write_span<W: Write>(text: &mut TextWriter<'_, W>, seconds: u64)
     ensures { Writes W.contents text.old text.new (spec.span_text seconds) }
 {

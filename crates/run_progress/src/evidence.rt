@@ -1,13 +1,13 @@
-//! What a failed program said last.
+//! The last line that a failed program wrote.
 ghost use Rattle.host_track.specs.Endings.{ending_of};
 ghost use Rattle.run_progress.specs.Evidence.{IsLastLine, IsSaid, IsSaidOf, IsShortened};
 
 use host_track::Outcome;
 
-/// The most bytes of its last line that are told.
+/// The most bytes of its last line that are reported.
 const MAX_SAID: usize = 300;
 
-/// The line that a program said last, and whether it is of its standard output or its standard error.
+/// The last line that a program wrote, and whether it is from its standard output or its standard error.
 #[derive(Clone, Copy)]
 pub(crate) struct LastLine<'a> {
     pub(crate) output: &'static str,
@@ -19,7 +19,7 @@ pub(crate) const NOTHING_SAID: LastLine<'static> = LastLine {
     line: "",
 };
 
-/// The last line of an output, without blanks behind it; its first bytes alone if it is long.
+/// Returns the last line of an output without trailing whitespace, truncated if it is long.
 fn last_line(text: &str) -> &str
     ensures { IsLastLine text.now result.now }
 {
@@ -30,7 +30,7 @@ fn last_line(text: &str) -> &str
     }
 }
 
-/// The first bytes of a line, no character cut.
+/// Returns the first bytes of a line, without splitting a character.
 fn shortened(line: &str) -> &str
     ensures { IsShortened line.now result.now }
 {
@@ -43,7 +43,7 @@ fn shortened(line: &str) -> &str
     }
 }
 
-/// What a program said last on its standard error, or else on its standard output.
+/// Returns the last line that a program wrote to its standard error, or otherwise to its standard output.
 fn said_of<'a>(stdout: &'a str, stderr: &'a str) -> LastLine<'a>
     ensures { IsSaidOf stdout.now stderr.now result }
 {
@@ -61,7 +61,7 @@ fn said_of<'a>(stdout: &'a str, stderr: &'a str) -> LastLine<'a>
     }
 }
 
-/// What a step's program said last; nothing if none ran.
+/// Returns the last line that a step's program wrote, or nothing if none ran.
 pub(crate) fn last_words(outcome: &Outcome) -> LastLine<'_>
     ensures { IsSaid (ending_of outcome.now) result }
 {

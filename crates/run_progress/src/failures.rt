@@ -1,4 +1,4 @@
-//! What a log is told of a run: its failures alone.
+//! What a log file shows of a run: only its failures.
 ghost use Rattle.std.specs.Prelude.{◌≡◌};
 ghost use Rattle.bounded_io.specs.Sending.{SendsText};
 ghost use Rattle.bounded_io.specs.Writing.{Writes};
@@ -21,7 +21,7 @@ use roll_core::Notification;
 use std::io::Write;
 use terminal_text::write_output;
 
-/// Whether a row is judged failed, so that the host goes no further.
+/// Reports whether a row is judged failed, so that the host runs no further step.
 pub(crate) fn is_failure(news: &Notification<'_>) -> bool
     ensures { result ≡ spec.is_failure (telling_of news.now) }
 {
@@ -34,7 +34,7 @@ pub(crate) fn is_failure(news: &Notification<'_>) -> bool
     }
 }
 
-/// Writes the row's line, and below it what the program said last, or why none was started.
+/// Writes the row's line, followed by the last line the program wrote, or by why none was started.
 #[tactic(auto, using(bounded_io::proofs::Pieces::pieces_of_text))]
 fn write_failure<W: Write>(
     text: &mut TextWriter<'_, W>,
@@ -109,7 +109,7 @@ fn send_text<W: Write>(
     text.finish()
 }
 
-/// Gives out what a log is told of a failed row.
+/// Sends what a log file shows of a failed row.
 pub(crate) fn send_failed<W: Write>(
     out: &mut W,
     fleet: &Fleet,

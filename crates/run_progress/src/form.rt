@@ -1,6 +1,6 @@
-//! What lines are written as.
+//! The form of lines.
 
-/// Words for whoever reads them, or an object of JSON a line.
+/// Text for people, or one JSON object per line.
 #[derive(Clone, Copy, Debug, PartialEq, Eq)]
 pub(crate) enum Form {
     Plain,

@@ -1,4 +1,4 @@
-//! What is told of a batch, as objects of JSON.
+//! What is reported about a batch, as JSON objects.
 ghost use Rattle.bounded_io.specs.Writing.{Writes};
 ghost use Rattle.domains.specs.Ids.{host_numbers};
 ghost use Rattle.run_progress.specs.JsonTellings as spec;
@@ -21,7 +21,7 @@ fn write_held_object<W: Write>(text: &mut TextWriter<'_, W>, fleet: &Fleet, held
     write_hosts_member(text, fleet, held);
 }
 
-/// Writes which hosts were set aside, where any were.
+/// Writes which hosts were held, if any.
 #[tactic(auto, using(bounded_io::proofs::Pieces::pieces_of_text))]
 pub(crate) fn write_held_json<W: Write>(
     text: &mut TextWriter<'_, W>,
@@ -81,7 +81,7 @@ fn write_counts_json<W: Write>(
     );
 }
 
-/// Writes how many hosts of a batch that is closed are what, and its times.
+/// Writes how many hosts of a closed batch have each status, and its times.
 #[tactic(auto, using(bounded_io::proofs::Pieces::pieces_of_text))]
 pub(crate) fn write_closing_json<W: Write>(
     text: &mut TextWriter<'_, W>,

@@ -1,4 +1,4 @@
-//! A program that is to begin, as an object of JSON.
+//! A program that is about to start, as a JSON object.
 ghost use Rattle.std.specs.Prelude.{map, string_bytes};
 ghost use Rattle.bounded_io.specs.Writing.{Writes};
 ghost use Rattle.run_progress.specs.JsonTellings as spec;
@@ -24,7 +24,7 @@ fn write_begin_front<W: Write>(text: &mut TextWriter<'_, W>, host: &str, step: u
     write_field(text, ",\"at\":", given.since_run);
 }
 
-/// Warns of a program that may take the host's name for an option.
+/// Writes a warning if the program might take the host's name for an option.
 #[tactic(auto, using(bounded_io::proofs::Pieces::pieces_of_text))]
 fn write_warning_json<W: Write>(text: &mut TextWriter<'_, W>, host: &str, words: &[String])
     ensures { Writes W.contents text.old text.new (spec.warning_json host.now (map string_bytes words.now)) }
@@ -52,7 +52,7 @@ fn write_begin_object<W: Write>(
     text.write_str("}\n");
 }
 
-/// Writes that the program of a job is to begin, with a warning where it may take the host's name for an option.
+/// Writes that the program of a job is about to start, with a warning if it might take the host's name for an option.
 pub(crate) fn write_begin_json<W: Write>(
     text: &mut TextWriter<'_, W>,
     fleet: &Fleet,

@@ -1,4 +1,4 @@
-//! How a step ended on a host, in its object of JSON.
+//! How a step ended on a host, in its JSON object.
 ghost use Rattle.std.specs.Prelude.{◌≡◌, Some};
 ghost use Rattle.bounded_io.specs.Writing.{Writes};
 ghost use Rattle.host_track.specs.Endings.{ending_of};
@@ -14,7 +14,7 @@ use local_runner::ExitDetail;
 use recap::{write_field, write_integer};
 use std::io::Write;
 
-/// The member of a verdict.
+/// Returns the member of a verdict.
 pub(crate) fn verdict_member(judged: Judged) -> &'static str
     ensures { result.now ≡ spec.verdict_json judged }
 {
@@ -79,7 +79,7 @@ fn write_took_json<W: Write>(text: &mut TextWriter<'_, W>, milliseconds: Option<
     }
 }
 
-/// Writes of a program that ended its code, the signal that ended it, the name without a value that a condition has, and its time.
+/// Writes the exit status of a program, the signal that ended it, the undefined name that a condition reads, and its time.
 #[tactic(auto, using(bounded_io::proofs::Pieces::pieces_of_text))]
 fn write_ran_json<W: Write>(text: &mut TextWriter<'_, W>, rc: i32, end: &End<'_>)
     ensures { Writes W.contents text.old text.new (spec.ran_json rc (name_in end.now.undefined) end.now.given.now) }
@@ -90,7 +90,7 @@ fn write_ran_json<W: Write>(text: &mut TextWriter<'_, W>, rc: i32, end: &End<'_>
     write_took_json(text, end.given.milliseconds);
 }
 
-/// Writes of another program that was to run a member, and its time.
+/// Writes a member for any other program that was to run, and its time.
 #[tactic(auto, using(bounded_io::proofs::Pieces::pieces_of_text))]
 fn write_tried_json<W: Write>(text: &mut TextWriter<'_, W>, member: &str, given: &Timing)
     ensures { Writes W.contents text.old text.new (spec.tried_json member.now given.now) }

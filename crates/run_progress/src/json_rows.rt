@@ -1,4 +1,4 @@
-//! The row of a step on a host as an object of JSON.
+//! The row of a step on a host as a JSON object.
 ghost use Rattle.bounded_io.specs.Writing.{Writes};
 ghost use Rattle.host_track.specs.Endings.{ending_of};
 ghost use Rattle.run_progress.specs.JsonRows as spec;
@@ -38,7 +38,7 @@ fn write_both_json<W: Write>(
     }
 }
 
-/// Writes what is kept of the outputs of a program, where they are shown.
+/// Writes what is kept of a program's outputs, if they are shown.
 #[tactic(auto, using(bounded_io::proofs::Pieces::pieces_of_text))]
 fn write_outputs_json<W: Write>(text: &mut TextWriter<'_, W>, outcome: &Outcome, judged: Judged)
     ensures { Writes W.contents text.old text.new (spec.outputs_json (ending_of outcome.now) judged) }
@@ -51,7 +51,7 @@ fn write_outputs_json<W: Write>(text: &mut TextWriter<'_, W>, outcome: &Outcome,
     }
 }
 
-/// Writes what the system said of a program that it didn't start.
+/// Writes the error with which the operating system refused to start a program.
 #[tactic(auto, using(bounded_io::proofs::Pieces::pieces_of_text))]
 fn write_refusal_json<W: Write>(text: &mut TextWriter<'_, W>, remark: &ExitDetail)
     ensures { Writes W.contents text.old text.new (spec.refusal_json remark.now) }
@@ -62,14 +62,14 @@ fn write_refusal_json<W: Write>(text: &mut TextWriter<'_, W>, remark: &ExitDetai
     }
 }
 
-/// Writes that a word is too long. The bound is that of a word with the values of its host.
+/// Writes that an argument is too long. The limit is that of an argument with the values of its host.
 fn write_too_long_json<W: Write>(text: &mut TextWriter<'_, W>)
     ensures { Writes W.contents text.old text.new spec.too_long_json }
 {
     write_error_member(text, b"a word is longer than 65536 bytes");
 }
 
-/// Writes why a program was not started: the system refused it, or none was tried.
+/// Writes why a program was not started: the operating system refused it, or it was not tried.
 fn write_why_not_json<W: Write>(text: &mut TextWriter<'_, W>, given: &Timing)
     ensures { Writes W.contents text.old text.new (spec.why_not_json given.now) }
 {
@@ -100,7 +100,8 @@ fn write_row_front<W: Write>(text: &mut TextWriter<'_, W>, host: &str, step: u64
     text.write_str(verdict_member(judged));
 }
 
-/// Writes how a step ended on a host and was judged, what is kept of the outputs of its program where it failed, and why none was started.
+/// Writes how a step ended on a host and was judged. If the program failed, adds what is kept of its outputs; if none was started, adds
+/// why.
 #[tactic(auto, using(bounded_io::proofs::Pieces::pieces_of_text))]
 pub(crate) fn write_row_json<W: Write>(
     text: &mut TextWriter<'_, W>,

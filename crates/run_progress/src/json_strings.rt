@@ -1,4 +1,4 @@
-//! Strings and arrays of JSON.
+//! JSON strings and arrays.
 ghost use Rattle.std.specs.Prelude.{flat_map};
 ghost use Rattle.bounded_io.specs.Writing.{Writes};
 ghost use Rattle.domains.specs.Ids.{host_numbers};
@@ -11,7 +11,7 @@ use recap::host_name;
 use std::io::Write;
 use terminal_text::write_escaped;
 
-/// Writes a text of others on one line.
+/// Writes text from elsewhere on one line.
 #[tactic(auto, using(bounded_io::proofs::Pieces::pieces_of_text))]
 pub(crate) fn write_string<W: Write>(text: &mut TextWriter<'_, W>, bytes: &[u8])
     ensures { Writes W.contents text.old text.new (spec.string_json bytes.now) }
@@ -21,7 +21,7 @@ pub(crate) fn write_string<W: Write>(text: &mut TextWriter<'_, W>, bytes: &[u8])
     text.write_str("\"");
 }
 
-/// Writes a text of others between these, with this for each line feed, where there is any text.
+/// Writes text from elsewhere, unless it is empty, between `front` and `back`, with `feed` for each line feed.
 #[tactic(auto, using(bounded_io::proofs::Pieces::pieces_of_text))]
 fn write_member<W: Write>(
     text: &mut TextWriter<'_, W>,
@@ -40,14 +40,14 @@ fn write_member<W: Write>(
     text.write_str(back);
 }
 
-/// Writes the name of a step, where it has one.
+/// Writes the name of a step, if it has one.
 pub(crate) fn write_name_member<W: Write>(text: &mut TextWriter<'_, W>, name: &str)
     ensures { Writes W.contents text.old text.new (spec.name_json name.now) }
 {
     write_member(text, ",\"name\":\"", "?", "\"", name.as_bytes());
 }
 
-/// Writes the lines of an output, behind the words in front of the first.
+/// Writes the lines of an output after `front`.
 pub(crate) fn write_output_member<W: Write>(text: &mut TextWriter<'_, W>, front: &str, output: &str)
     ensures { Writes W.contents text.old text.new (spec.output_json front.now output.now) }
 {
@@ -113,7 +113,7 @@ fn write_entries<W: Write>(text: &mut TextWriter<'_, W>, fleet: &Fleet, hosts: &
     }
 }
 
-/// Writes the names of hosts, and the end of the object that they are of.
+/// Writes the names of hosts, and the end of the object that contains them.
 #[tactic(auto, using(bounded_io::proofs::Pieces::pieces_of_text))]
 pub(crate) fn write_hosts_member<W: Write>(
     text: &mut TextWriter<'_, W>,

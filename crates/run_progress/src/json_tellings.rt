@@ -1,4 +1,4 @@
-//! What is told of each thing that happens, as an object of JSON on a line.
+//! What is reported for each event, as a JSON object on a line.
 ghost use Rattle.std.specs.Prelude.{◌≡◌};
 ghost use Rattle.bounded_io.specs.Writing.{Writes};
 ghost use Rattle.roll_core.specs.Tellings.{telling_of};
@@ -18,7 +18,7 @@ use roll_core::Notification;
 use std::io::Write;
 use terminal_text::{byte_at, write_escaped};
 
-/// Writes what is told of what happened.
+/// Writes what is reported for the event.
 pub(crate) fn write_telling_json<W: Write>(
     text: &mut TextWriter<'_, W>,
     fleet: &Fleet,
@@ -68,7 +68,7 @@ fn write_gate_object<W: Write>(text: &mut TextWriter<'_, W>, descriptors: u64, m
     text.write_str("}\n");
 }
 
-/// Writes how many programs may be under way at once with so many descriptors, where that is due.
+/// Writes how many programs can run at once with how many descriptors, if that is due.
 #[tactic(auto, using(bounded_io::proofs::Pieces::pieces_of_text))]
 pub(crate) fn write_gate_json<W: Write>(text: &mut TextWriter<'_, W>, bounds: Option<(u64, usize)>)
     ensures { Writes W.contents text.old text.new (spec.gate_json bounds) }
@@ -86,7 +86,7 @@ fn write_play_object<W: Write>(text: &mut TextWriter<'_, W>, number: u64)
     text.write_str("}\n");
 }
 
-/// Writes the number of the play that begins, where there are several.
+/// Writes the number of the play that starts, if there are several.
 #[tactic(auto, using(bounded_io::proofs::Pieces::pieces_of_text))]
 pub(crate) fn write_play_json<W: Write>(text: &mut TextWriter<'_, W>, number: u64, plays: u64)
     ensures { Writes W.contents text.old text.new (spec.play_json number plays) }
@@ -96,7 +96,7 @@ pub(crate) fn write_play_json<W: Write>(text: &mut TextWriter<'_, W>, number: u6
     }
 }
 
-/// Lines without the line feed that ends the last one.
+/// Returns the lines without the line feed at their end.
 fn without_end(lines: &[u8]) -> &[u8]
     ensures { result.now ≡ spec.without_end lines.now }
 {
@@ -108,7 +108,7 @@ fn without_end(lines: &[u8]) -> &[u8]
     }
 }
 
-/// Writes lines of others, each as the text of a note.
+/// Writes lines from elsewhere, each as the text of a note.
 #[tactic(auto, using(bounded_io::proofs::Pieces::pieces_of_text))]
 pub(crate) fn write_notes_json<W: Write>(text: &mut TextWriter<'_, W>, lines: &[u8])
     ensures { Writes W.contents text.old text.new (spec.notes_json lines.now) }

@@ -1,4 +1,4 @@
-//! Telling of a run on standard error while it goes on: its lines, in words or as objects of JSON, or one line at a terminal.
+//! Reporting a run on standard error during the run: line by line as text or as JSON objects, or in one line on a terminal.
 #![tactic(auto)]
 
 mod batches;

@@ -1,11 +1,12 @@
-//! How much is told of a run.
+//! How much of a run is reported.
 ghost use Rattle.std.specs.Prelude.{◌≡◌};
 ghost use Rattle.run_progress.specs.Modes as spec;
 
 use crate::form::Form;
 
-/// Nothing; only failures, for a log, in words or as objects of JSON; failures and warnings, and below them one line that is written over, if the terminal
-/// can go back in one; or a line for each thing that happens, in words or as an object of JSON.
+/// How much is reported: nothing, only failures, one status line, or a line per event. Failures for a log file are text or JSON objects.
+/// The status line is rewritten if the terminal supports that, and failures and warnings appear above it. Lines per event are text or JSON
+/// objects.
 #[derive(Clone, Copy, Debug, PartialEq, Eq)]
 pub(crate) enum Mode {
     Nothing,
@@ -15,8 +16,8 @@ pub(crate) enum Mode {
     AllJson,
 }
 
-/// What is wanted of the lines, and who sees them: whether the words ask for all of them or for none, and for objects of JSON; whether standard error is a terminal,
-/// whether it is one that can't go back in a line, and how many columns it has.
+/// What is requested, and where it appears: whether all lines, no lines, or JSON objects are requested. Also whether standard error is a
+/// terminal, whether that can't go back in a line, and its width.
 #[derive(Clone, Copy, Debug, PartialEq, Eq)]
 pub struct Seen {
     pub is_verbose: bool,
@@ -27,7 +28,7 @@ pub struct Seen {
     pub width: usize,
 }
 
-/// How much is told where it is seen so.
+/// Returns how much is reported for this request and this terminal.
 pub(crate) fn mode_of(seen: &Seen) -> Mode
     ensures { result ≡ spec.mode_of seen.now }
 {
@@ -62,7 +63,7 @@ fn lines_mode(is_json: bool) -> Mode
     }
 }
 
-/// What lines are written as where so much is told.
+/// Returns the form of lines in this mode.
 pub(crate) fn form_of(mode: Mode) -> Form
     ensures { result ≡ spec.form_of mode }
 {

@@ -4,7 +4,7 @@ ghost use Rattle.run_progress.specs.Tellings as spec;
 
 use play_model::{Play, Step};
 
-/// The name of the step at this place, from 0; one that has none is given an empty one.
+/// Returns the name of the step at this index, from 0, or an empty one if it has none.
 pub(crate) fn step_name(play: &Play, step: usize) -> &str
     ensures { result.now ≡ spec.name_at play.now step }
 {
@@ -23,7 +23,7 @@ fn name_of(step: &Step) -> &str
     }
 }
 
-/// Steps are counted from 1.
+/// Returns the number of a step, counted from 1.
 pub(crate) fn step_number(step: usize) -> u64
     ensures { result ≡ spec.number_of step }
 {

@@ -1,12 +1,12 @@
-//! Names that a program may take for options.
+//! Names that a program might take for options.
 ghost use Rattle.std.specs.Prelude.{◌≡◌, ◌∷◌, map, string_bytes};
 ghost use Rattle.std.specs.Str.{bytes_eq};
 ghost use Rattle.run_progress.specs.Options as spec;
 
-/// What is told of such a name.
+/// The warning about such a name.
 pub(crate) const WARNING: &str = "its name stands where an option may: write -- before it";
 
-/// Whether the name begins with a dash and stands among the words of a program behind the first one, with no word before it that ends options.
+/// Reports whether the name starts with a dash and is an argument of the program, and no earlier argument ends the options.
 pub(crate) fn is_taken_for_an_option(name: &str, words: &[String]) -> bool
     ensures { result ≡ spec.is_taken_for_an_option name.now (map string_bytes words.now) }
 {
@@ -26,7 +26,7 @@ fn starts_with_dash(name: &str) -> bool
     }
 }
 
-/// Whether the name is one of the words in front of the one that ends options.
+/// Reports whether the name is one of the words before the one that ends the options.
 fn stands_before_the_end(name: &str, words: &[String]) -> bool
     ensures { result ≡ spec.stands_before_the_end name.now (map string_bytes words.now) }
 {

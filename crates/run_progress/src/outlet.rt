@@ -1,4 +1,4 @@
-//! Where texts are told.
+//! The destination of reports.
 ghost use Rattle.std.specs.Prelude.{◌≡◌, ◌++◌, option_map};
 ghost use Rattle.bounded_io.specs.Sending.{SendsText};
 ghost use Rattle.roll_core.specs.Tellings.{telling_of};
@@ -18,8 +18,8 @@ use play_model::Play;
 use roll_core::Notification;
 use std::io::Write;
 
-/// A writer, and how the text that was told last went out: whole, or its first bytes alone where a write failed. Only a text that is given out here
-/// changes that, so no caller leaves one out and has it that a write failed.
+/// A writer, and whether the last text was written completely, or only its first bytes because a write failed. Only text that is sent here
+/// changes that, so no caller can skip a text and claim that a write failed.
 #[derive(Drop)]
 pub(crate) struct Outlet<E> {
     out: E,
@@ -33,7 +33,7 @@ impl<E: Write> Outlet<E> {
         Outlet { out, sent: Ok(()) }
     }
 
-    /// Gives out what is told of what happened.
+    /// Sends what is reported for the event.
     pub(crate) fn tell(
         &mut self,
         form: Form,
@@ -47,7 +47,7 @@ impl<E: Write> Outlet<E> {
         self.sent = send_told(&mut self.out, form, fleet, play, news, given);
     }
 
-    /// Gives out what a log is told of a failed row.
+    /// Sends what a log file shows of a failed row.
     pub(crate) fn report_failed(
         &mut self,
         form: Form,
@@ -64,7 +64,7 @@ impl<E: Write> Outlet<E> {
         }
     }
 
-    /// Gives out what is told above the one line, and that line.
+    /// Sends what appears above the status line, and that line.
     pub(crate) fn draw(
         &mut self,
         over: &Over,
@@ -80,14 +80,14 @@ impl<E: Write> Outlet<E> {
         self.sent = send_over(&mut self.out, over, fleet, play, news, given);
     }
 
-    /// Gives out the number of the play that begins, where there are several.
+    /// Sends the number of the play that starts, if there are several.
     pub(crate) fn report_play(&mut self, form: Form, number: u64, plays: u64)
         ensures { SendsText (E.contents self.old.out) (E.contents self.new.out) (play_as form number plays) self.new.sent }
     {
         self.sent = send_play(&mut self.out, form, number, plays);
     }
 
-    /// Gives these lines out, and wipes the one line away before them where it is to be.
+    /// Sends these lines, and clears the status line before them if requested.
     pub(crate) fn report_lines(&mut self, wipes: bool, form: Form, lines: &[u8])
         ensures { SendsText (E.contents self.old.out) (E.contents self.new.out) (wiped_text wipes ++ lines_as form lines.now) self.new.sent }
     {

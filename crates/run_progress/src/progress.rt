@@ -1,4 +1,4 @@
-//! How far a run is.
+//! The progress of a run.
 ghost use Rattle.std.specs.Prelude.{◌<◌, IfSome, length};
 
 use crate::batches::{count_updated, count_waiting};
@@ -11,7 +11,7 @@ use roll_core::Notification;
 use std::alloc::Global;
 use std::sync::Wait;
 
-/// When the run and its last batch began, by the clock, if there is one; what was counted; and on which hosts programs are under way.
+/// When the run and its last batch started, if there is a clock; what was counted; and on which hosts programs are running.
 #[derive(Drop)]
 pub(crate) struct Progress {
     began: Option<u64>,
@@ -30,28 +30,28 @@ impl Progress {
         }
     }
 
-    /// The run begins now.
+    /// Records that the run starts now.
     pub(crate) fn begin(&mut self) {
         self.began = milliseconds();
     }
 
-    /// The next play is to begin, behind so many of a file's.
+    /// Records that the next play of a file starts, after `before` of its `plays` plays.
     pub(crate) fn begin_plays(&mut self, before: usize, plays: usize) {
         self.counters = Counters::new(before as u64, plays as u64);
     }
 
-    /// The next play begins.
+    /// Records that the next play starts.
     pub(crate) fn begin_play(&mut self) {
         let number = self.counters.play.saturating_add(1);
         self.counters = Counters::new(number, self.counters.plays);
     }
 
-    /// How many seconds the run has taken so far.
+    /// Returns how many seconds the run has taken so far.
     pub(crate) fn seconds(&self) -> u64 {
         milliseconds_since(self.began) / 1_000
     }
 
-    /// This has happened. Gives what is told beside it: the note of a program that is over is taken away, and so are the bounds.
+    /// Records an event, and returns what is reported with it. Takes the note of a program that has ended, and the bounds, from the inbox.
     pub(crate) fn on_event<H: Wait>(
         &mut self,
         rt: &H,
@@ -96,7 +96,7 @@ impl Progress {
             .close(count_updated(batch, statuses, halt) as u64);
     }
 
-    /// What is told beside something that happens now. A program was tried where its begin was told or it has left a note.
+    /// Returns what is reported with an event now. A program was tried if its start was reported or it has left a note.
     fn given(&self, bounds: Option<(u64, usize)>, was_begun: bool, note: Option<Note>) -> Timing {
         let since_run = milliseconds_since(self.began);
         let since_batch = milliseconds_since(self.opened);
@@ -121,7 +121,7 @@ impl Progress {
     }
 }
 
-/// Where a host stands.
+/// Returns the index of a host.
 fn place_of(hosts: &[HostId], host: HostId) -> Option<usize>
     ensures { IfSome result (λ place. place < length hosts.now) }
 {
@@ -133,7 +133,7 @@ fn place_of(hosts: &[HostId], host: HostId) -> Option<usize>
     None
 }
 
-/// Takes a host away, and says whether it was there. The others keep their order.
+/// Removes a host, and reports whether it was there. The others keep their order.
 fn take_host(hosts: &mut Vec<HostId>, host: HostId) -> bool {
     match place_of(hosts.as_slice(), host) {
         Some(place) => {

@@ -1,4 +1,4 @@
-//! Whoever tells of a run.
+//! The progress reporter of a run.
 ghost use Rattle.std.specs.Prelude.{◌≡◌, [], ◌++◌, IfSome, None, false, true};
 ghost use Rattle.bounded_io.specs.Sending.{SendsText};
 ghost use Rattle.roll_core.specs.Tellings.{telling_of};
@@ -25,23 +25,23 @@ use std::alloc::Global;
 use std::io::Write;
 use std::sync::Wait;
 
-/// Tells of a run to whoever started it.
+/// Reports a run to the user who started it.
 pub trait ReportProgress: Observer {
     ghost use Rattle.run_progress.specs.declared.mode.Seen.{Seen};
 
-    /// It tells of a run as of one that is seen so.
+    /// It reports a run with these settings.
     ghost tells_as: { Self → Seen → Type 0 };
 
-    /// A run may begin, and is seen so.
+    /// Starts reporting a run with these settings.
     fn run_begins(&mut self, seen: Seen)
         ensures { tells_as self.new seen };
 
-    /// The fault that the run ends with was told, if there is one.
+    /// Ends reporting. An error that ends the run has been printed.
     fn run_ends(&mut self);
 }
 
-/// Tells of a run on standard error: its lines, one line at a terminal, or its failures alone. A write that fails is passed over: what goes wrong here changes nothing of
-/// the run.
+/// Reports a run on standard error: its lines, one status line on a terminal, or only its failures. A failed write is ignored: errors here
+/// do not affect the run.
 #[derive(Drop)]
 pub struct ProgressReporter<'a, H, E> {
     rt: &'a H,
@@ -54,7 +54,7 @@ pub struct ProgressReporter<'a, H, E> {
 }
 
 impl<'a, H: Wait, E: Write> ProgressReporter<'a, H, E> {
-    /// Nothing is told before a run begins.
+    /// Returns a reporter that reports nothing until a run starts.
     pub fn new(
         rt: &'a H,
         alloc: Global,
@@ -76,7 +76,7 @@ impl<'a, H: Wait, E: Write> ProgressReporter<'a, H, E> {
         }
     }
 
-    /// Gives out the lines of what happened.
+    /// Sends the lines of an event.
     fn report_all(&mut self, form: Form, fleet: &Fleet, play: &Play, news: &Notification<'_>)
         ensures stays { self.new.mode ≡ self.old.mode }
         ensures screen { self.new.screen ≡ self.old.screen }
@@ -86,7 +86,7 @@ impl<'a, H: Wait, E: Write> ProgressReporter<'a, H, E> {
         self.outlet.tell(form, fleet, play, news, &given);
     }
 
-    /// Gives out a failure, and nothing of what else happened.
+    /// Sends a failure, and nothing for other events.
     fn report_failure(&mut self, form: Form, fleet: &Fleet, play: &Play, news: &Notification<'_>)
         ensures stays { self.new.mode ≡ self.old.mode }
         ensures screen { self.new.screen ≡ self.old.screen }
@@ -100,8 +100,8 @@ impl<'a, H: Wait, E: Write> ProgressReporter<'a, H, E> {
         self.outlet.report_failed(form, fleet, play, news, &given);
     }
 
-    /// The one line of a run that has taken so many seconds, where the terminal can go back in it, once a batch was opened, and where there is memory
-    /// for it.
+    /// Returns the status line of a run that has taken this many seconds. Returns nothing if the terminal can't go back in a line, if no
+    /// batch was opened yet, or if an allocation fails.
     fn line(&self, fleet: &Fleet, seconds: u64) -> Option<Vec<u8>>
         ensures none { self.now.screen.draws ≡ false → result ≡ None }
         ensures opened { self.now.progress.counters.batch ≡ 0 → result ≡ None }
@@ -120,7 +120,7 @@ impl<'a, H: Wait, E: Write> ProgressReporter<'a, H, E> {
         )
     }
 
-    /// Gives out the one line, and above it what is told of what happened.
+    /// Sends the status line, and above it what is reported for the event.
     fn draw(&mut self, fleet: &Fleet, play: &Play, news: &Notification<'_>)
         ensures stays { self.new.mode ≡ self.old.mode }
         ensures draws { Draws fleet.now play.now (telling_of news.now) self.old.screen self.new.screen
@@ -133,14 +133,14 @@ impl<'a, H: Wait, E: Write> ProgressReporter<'a, H, E> {
         self.screen.is_over(&over);
     }
 
-    /// Whether anything is told.
+    /// Reports whether anything is shown.
     fn tells(&self) -> bool
         ensures { result ≡ spec.tells self.now.mode }
     {
         self.mode != Mode::Nothing
     }
 
-    /// Whether what is no failure is told, such as which hosts are left out.
+    /// Reports whether messages other than failures are shown, such as which hosts are skipped.
     fn tells_notes(&self) -> bool
         ensures { result ≡ spec.tells_notes self.now.mode }
     {
@@ -150,14 +150,14 @@ impl<'a, H: Wait, E: Write> ProgressReporter<'a, H, E> {
         }
     }
 
-    /// Whether a line is told for each thing that happens.
+    /// Reports whether a line is shown for each event.
     fn tells_lines(&self) -> bool
         ensures { result ≡ spec.tells_lines self.now.mode }
     {
         self.mode == Mode::AllLines || self.mode == Mode::AllJson
     }
 
-    /// Gives these lines out, without the one line, where that stands.
+    /// Sends these lines, after clearing the status line if it is shown.
     fn report_lines(&mut self, lines: &[u8])
         ensures stays { self.new.mode ≡ self.old.mode }
         ensures blank { self.new.screen ≡ screens.blank self.old.screen.width self.old.screen.draws }

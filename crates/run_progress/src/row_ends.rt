@@ -11,7 +11,7 @@ use local_runner::ExitDetail;
 use recap::{write_field, write_integer};
 use std::io::Write;
 
-/// How a step ended, how that was judged, the name without a value for which it has failed, if it was for one, and what is told beside it.
+/// How a step ended and how that was judged, the undefined name that made it fail, if one did, and what is reported with it.
 #[derive(Clone, Copy)]
 pub(crate) struct End<'a> {
     pub(crate) outcome: &'a Outcome,
@@ -20,7 +20,7 @@ pub(crate) struct End<'a> {
     pub(crate) given: &'a Timing,
 }
 
-/// The word of a verdict, as the recap counts it.
+/// Returns the word for a verdict, as the recap counts it.
 pub(crate) fn verdict_word(judged: Judged) -> &'static str
     ensures { result.now ≡ spec.verdict_text judged }
 {
@@ -85,7 +85,7 @@ fn write_took<W: Write>(text: &mut TextWriter<'_, W>, milliseconds: Option<u64>)
     }
 }
 
-/// Writes of a program that ended its code, the signal that ended it, the name without a value that a condition has, and its time.
+/// Writes the exit status of a program, the signal that ended it, the undefined name that a condition reads, and its time.
 #[tactic(auto, using(bounded_io::proofs::Pieces::pieces_of_text))]
 fn write_ran<W: Write>(text: &mut TextWriter<'_, W>, rc: i32, end: &End<'_>)
     ensures { Writes W.contents text.old text.new (spec.ran_text rc (spec.name_in end.now.undefined) end.now.given.now) }
@@ -96,7 +96,7 @@ fn write_ran<W: Write>(text: &mut TextWriter<'_, W>, rc: i32, end: &End<'_>)
     write_took(text, end.given.milliseconds);
 }
 
-/// Writes of another program that was to run a word, and its time.
+/// Writes a word for any other program that was to run, and its time.
 #[tactic(auto, using(bounded_io::proofs::Pieces::pieces_of_text))]
 fn write_tried<W: Write>(text: &mut TextWriter<'_, W>, word: &str, given: &Timing)
     ensures { Writes W.contents text.old text.new (spec.tried_text word.now given.now) }

@@ -1,4 +1,4 @@
-//! What is told of the row of a step on a host.
+//! What is reported about the row of a step on a host.
 ghost use Rattle.std.specs.Prelude.{◌≡◌};
 ghost use Rattle.bounded_io.specs.Writing.{Writes};
 ghost use Rattle.host_track.specs.Endings.{ending_of};
@@ -42,7 +42,7 @@ pub(crate) fn write_row_line<W: Write>(
     write_name(text, name);
 }
 
-/// Whether outputs are shown of a program that is judged so: it failed, ignored or not.
+/// Reports whether the outputs of a program with this verdict are shown: it failed, ignored or not.
 pub(crate) fn shows_outputs(judged: Judged) -> bool
     ensures { result ≡ spec.shows_outputs judged }
 {
@@ -70,7 +70,7 @@ fn write_both<W: Write>(
     }
 }
 
-/// Writes what is kept of the outputs of a program, where they are shown.
+/// Writes what is kept of a program's outputs, if they are shown.
 #[tactic(auto, using(bounded_io::proofs::Pieces::pieces_of_text))]
 fn write_outputs<W: Write>(
     text: &mut TextWriter<'_, W>,
@@ -88,7 +88,7 @@ fn write_outputs<W: Write>(
     }
 }
 
-/// Writes what the system said of a program that it didn't start.
+/// Writes the error with which the operating system refused to start a program.
 #[tactic(auto, using(bounded_io::proofs::Pieces::pieces_of_text))]
 fn write_refusal<W: Write>(text: &mut TextWriter<'_, W>, host: &str, remark: &ExitDetail)
     ensures { Writes W.contents text.old text.new (spec.refusal_text host.now remark.now) }
@@ -99,14 +99,14 @@ fn write_refusal<W: Write>(text: &mut TextWriter<'_, W>, host: &str, remark: &Ex
     }
 }
 
-/// Writes that a word is too long. The bound is that of a word with the values of its host.
+/// Writes that an argument is too long. The limit is that of an argument with the values of its host.
 fn write_too_long<W: Write>(text: &mut TextWriter<'_, W>, host: &str)
     ensures { Writes W.contents text.old text.new (spec.too_long_text host.now) }
 {
     write_output(text, host, "error", b"a word is longer than 65536 bytes");
 }
 
-/// Writes why a program was not started: the system refused it, or none was tried.
+/// Writes why a program was not started: the operating system refused it, or it was not tried.
 fn write_why_not<W: Write>(text: &mut TextWriter<'_, W>, host: &str, given: &Timing)
     ensures { Writes W.contents text.old text.new (spec.why_not_text host.now given.now) }
 {
@@ -133,7 +133,8 @@ pub(crate) fn write_error<W: Write>(
     }
 }
 
-/// Writes how a step ended on a host and was judged, what is kept of the outputs of its program where it failed, and why none was started.
+/// Writes how a step ended on a host and was judged. If the program failed, adds what is kept of its outputs; if none was started, adds
+/// why.
 #[tactic(auto, using(bounded_io::proofs::Pieces::pieces_of_text))]
 pub(crate) fn write_row<W: Write>(
     text: &mut TextWriter<'_, W>,

@@ -1,4 +1,4 @@
-//! What is given out at a terminal on which the one line is written over.
+//! A terminal with a status line that is rewritten.
 ghost use Rattle.std.specs.Prelude.{◌≡◌, option_map};
 ghost use Rattle.bounded_io.specs.Writing.{Writes};
 ghost use Rattle.run_progress.specs.Screens as spec;
@@ -7,7 +7,7 @@ use crate::status_line::{write_cleared, write_drawn};
 use bounded_io::TextWriter;
 use std::io::Write;
 
-/// A terminal: how many columns it has, whether it can go back in a line, and whether the one line stands on it.
+/// A terminal: its width, whether it can go back in a line, and whether the status line is shown on it.
 #[derive(Clone, Copy, Debug, PartialEq, Eq)]
 pub(crate) struct Screen {
     pub(crate) width: usize,
@@ -15,8 +15,7 @@ pub(crate) struct Screen {
     pub(crate) is_drawn: bool,
 }
 
-/// What becomes of the one line: whether it is wiped away before anything is told, and the line that is drawn behind that, if one is, in so many
-/// columns.
+/// What happens to the status line: whether it is cleared before anything is shown, and which line, if any, is then drawn in this width.
 #[derive(Debug, Drop)]
 pub(crate) struct Over {
     pub(crate) wipes: bool,
@@ -25,7 +24,7 @@ pub(crate) struct Over {
 }
 
 impl Screen {
-    /// Nothing stands on it.
+    /// Returns a terminal that shows no status line.
     pub(crate) fn new(width: usize, draws: bool) -> Screen
         ensures { result ≡ spec.blank width draws }
     {
@@ -36,7 +35,7 @@ impl Screen {
         }
     }
 
-    /// What becomes of the one line where it is drawn anew, and where something is told above it or nothing.
+    /// Returns what happens to the status line if `line` is drawn, and if something is shown above it.
     pub(crate) fn over(&self, tells_above: bool, line: Option<Vec<u8>>) -> Over
         ensures wipes { result.wipes ≡ spec.wipes self.now tells_above }
         ensures width { result.width ≡ self.now.width }
@@ -49,7 +48,7 @@ impl Screen {
         }
     }
 
-    /// The line was drawn over, or wiped away, or neither.
+    /// Records that the line was drawn, cleared, or neither.
     pub(crate) fn is_over(&mut self, over: &Over)
         ensures { self.new ≡ spec.drawn_over over.now.wipes (option_map (λ line. line.items) over.now.line) self.old }
     {
@@ -57,7 +56,7 @@ impl Screen {
     }
 }
 
-/// Wipes the one line away, where it is to be.
+/// Clears the status line, if requested.
 #[tactic(auto, using(bounded_io::proofs::Pieces::pieces_of_text))]
 pub(crate) fn write_wiped<W: Write>(text: &mut TextWriter<'_, W>, wipes: bool)
     ensures { Writes W.contents text.old text.new (spec.wiped_text wipes) }
@@ -67,7 +66,7 @@ pub(crate) fn write_wiped<W: Write>(text: &mut TextWriter<'_, W>, wipes: bool)
     }
 }
 
-/// Draws the one line, where it is to be.
+/// Draws the status line, if there is one to draw.
 #[tactic(auto, using(bounded_io::proofs::Pieces::pieces_of_text))]
 pub(crate) fn write_line<W: Write>(text: &mut TextWriter<'_, W>, over: &Over)
     ensures { Writes W.contents text.old text.new (spec.line_text over.now.width (option_map (λ line. line.items) over.now.line)) }

@@ -1,4 +1,4 @@
-//! What is told above the one line of a run at a terminal.
+//! What appears above the status line on a terminal.
 ghost use Rattle.std.specs.Prelude.{◌≡◌};
 ghost use Rattle.bounded_io.specs.Writing.{Writes};
 ghost use Rattle.domains.specs.Numbered.{host_at};
@@ -23,7 +23,7 @@ fn is_warned_of(fleet: &Fleet, job: &Job) -> bool
     is_taken_for_an_option(host_name(fleet, job.host()), job.words())
 }
 
-/// Whether something of what happened is told above the line.
+/// Reports whether something about the event appears above the line.
 fn is_above(fleet: &Fleet, news: &Notification<'_>) -> bool
     ensures { result ≡ spec.is_above fleet.now (telling_of news.now) }
 {
@@ -35,14 +35,14 @@ fn is_above(fleet: &Fleet, news: &Notification<'_>) -> bool
     }
 }
 
-/// Whether anything is told above the line: that, or the line of descriptors.
+/// Reports whether anything appears above the line: that, or the line about descriptors.
 pub(crate) fn tells_above(fleet: &Fleet, news: &Notification<'_>, given: &Timing) -> bool
     ensures { result ≡ spec.tells_above fleet.now (telling_of news.now) given.now }
 {
     given.bounds.is_some() || is_above(fleet, news)
 }
 
-/// Writes of what happened the warning alone, or the whole row that is judged failed.
+/// Writes only the warning of the event, or the complete row if it is judged failed.
 #[tactic(auto, using(bounded_io::proofs::Pieces::pieces_of_text))]
 pub(crate) fn write_above<W: Write>(
     text: &mut TextWriter<'_, W>,

@@ -1,4 +1,4 @@
-//! Texts of what is told, given out whole.
+//! Text that is sent as one unit.
 ghost use Rattle.std.specs.Prelude.{◌≡◌, ◌++◌, option_map};
 ghost use Rattle.bounded_io.specs.Sending.{SendsText};
 ghost use Rattle.bounded_io.specs.Writing.{Writes};
@@ -67,8 +67,8 @@ fn write_told_as<W: Write>(
     }
 }
 
-/// Gives out what is told of what happened, behind the line of descriptors where that is due. Where a write fails, exactly the first bytes
-/// went out, as many as the fault says.
+/// Sends what is reported for the event, after the line about descriptors if that is due. If a write fails, exactly the first bytes were
+/// written; the error states how many.
 pub(crate) fn send_told<W: Write>(
     out: &mut W,
     form: Form,
@@ -115,7 +115,7 @@ fn write_over<W: Write>(
     write_line(text, over);
 }
 
-/// Gives out what is told above the one line, and that line.
+/// Sends what appears above the status line, and that line.
 pub(crate) fn send_over<W: Write>(
     out: &mut W,
     over: &Over,
@@ -141,7 +141,7 @@ fn write_play_as<W: Write>(text: &mut TextWriter<'_, W>, form: Form, number: u64
     }
 }
 
-/// Gives out the number of the play that begins, where there are several.
+/// Sends the number of the play that starts, if there are several.
 pub(crate) fn send_play<W: Write>(
     out: &mut W,
     form: Form,
@@ -172,7 +172,7 @@ fn write_lines<W: Write>(text: &mut TextWriter<'_, W>, wipes: bool, form: Form, 
     write_lines_as(text, form, lines);
 }
 
-/// Gives these lines out, and wipes the one line away before them where it is to be.
+/// Sends these lines, and clears the status line before them if requested.
 pub(crate) fn send_lines<W: Write>(
     out: &mut W,
     wipes: bool,

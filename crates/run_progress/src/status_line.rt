@@ -1,4 +1,4 @@
-//! The one line of a run at a terminal.
+//! The status line of a run on a terminal.
 ghost use Rattle.std.specs.Prelude.{◌≡◌, IfSome};
 ghost use Rattle.bounded_io.specs.Sending.{SendsText};
 ghost use Rattle.bounded_io.specs.Writing.{Writes};
@@ -98,7 +98,7 @@ fn write_several<W: Write>(
     write_more(text, more);
 }
 
-/// Writes on which hosts programs are under way: the first two, and how many more.
+/// Writes on which hosts programs are running: the first two, and how many more.
 #[tactic(auto, using(bounded_io::proofs::Pieces::pieces_of_text))]
 fn write_on<W: Write>(text: &mut TextWriter<'_, W>, fleet: &Fleet, hosts: &[HostId])
     ensures { Writes W.contents text.old text.new (spec.on_text fleet.now hosts.now) }
@@ -112,7 +112,7 @@ fn write_on<W: Write>(text: &mut TextWriter<'_, W>, fleet: &Fleet, hosts: &[Host
     }
 }
 
-/// Writes the line of a run that has taken so many seconds, while programs are under way on these hosts.
+/// Writes the line of a run that has taken this many seconds, with programs running on these hosts.
 #[tactic(auto, using(bounded_io::proofs::Pieces::pieces_of_text))]
 fn write_status<W: Write>(
     text: &mut TextWriter<'_, W>,
@@ -146,7 +146,7 @@ fn send_status<W: Write>(
     text.finish()
 }
 
-/// The line, where there is memory for it.
+/// Returns the line, or nothing if an allocation fails.
 pub(crate) fn status_line(
     alloc: Global,
     fleet: &Fleet,
@@ -163,7 +163,7 @@ pub(crate) fn status_line(
     }
 }
 
-/// What of a line stands in a terminal of so many columns: it goes into the next one with the last of them.
+/// Returns the part of a line that fits into a terminal of this width without its last column, which would wrap the line.
 fn cut(line: &[u8], width: usize) -> &[u8]
     ensures { result.now ≡ spec.cut_text width line.now }
 {
@@ -171,7 +171,7 @@ fn cut(line: &[u8], width: usize) -> &[u8]
     &line[..columns.min(line.len())]
 }
 
-/// Writes a line over what stands there, in a terminal of so many columns.
+/// Writes a line over the current one, in a terminal of this width.
 #[tactic(auto, using(bounded_io::proofs::Pieces::pieces_of_text))]
 pub(crate) fn write_drawn<W: Write>(text: &mut TextWriter<'_, W>, width: usize, line: &[u8])
     ensures { Writes W.contents text.old text.new (spec.drawn_text width line.now) }
@@ -181,7 +181,7 @@ pub(crate) fn write_drawn<W: Write>(text: &mut TextWriter<'_, W>, width: usize, 
     text.write_bytes(&[27, 91, 75]);
 }
 
-/// Wipes the line away.
+/// Clears the line.
 #[tactic(auto, using(bounded_io::proofs::Pieces::pieces_of_text))]
 pub(crate) fn write_cleared<W: Write>(text: &mut TextWriter<'_, W>)
     ensures { Writes W.contents text.old text.new spec.cleared_text }

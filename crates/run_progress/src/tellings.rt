@@ -1,4 +1,4 @@
-//! What is told of each thing that happens.
+//! What is reported for each event.
 ghost use Rattle.std.specs.Prelude.{◌≡◌};
 ghost use Rattle.bounded_io.specs.Writing.{Writes};
 ghost use Rattle.roll_core.specs.Tellings.{telling_of};
@@ -17,7 +17,7 @@ use recap::{host_name, write_field, write_held};
 use roll_core::Notification;
 use std::io::Write;
 
-/// Writes what is told of what happened.
+/// Writes what is reported for the event.
 pub(crate) fn write_telling<W: Write>(
     text: &mut TextWriter<'_, W>,
     fleet: &Fleet,
@@ -67,7 +67,7 @@ fn write_gate_line<W: Write>(text: &mut TextWriter<'_, W>, descriptors: u64, mos
     text.write_str("\n");
 }
 
-/// Writes how many programs may be under way at once with so many descriptors, where that is due.
+/// Writes how many programs can run at once with how many descriptors, if that is due.
 #[tactic(auto, using(bounded_io::proofs::Pieces::pieces_of_text))]
 pub(crate) fn write_gate<W: Write>(text: &mut TextWriter<'_, W>, bounds: Option<(u64, usize)>)
     ensures { Writes W.contents text.old text.new (spec.gate_text bounds) }
@@ -85,7 +85,7 @@ fn write_play_line<W: Write>(text: &mut TextWriter<'_, W>, number: u64)
     text.write_str("\n");
 }
 
-/// Writes the number of the play that begins, where there are several.
+/// Writes the number of the play that starts, if there are several.
 #[tactic(auto, using(bounded_io::proofs::Pieces::pieces_of_text))]
 pub(crate) fn write_play<W: Write>(text: &mut TextWriter<'_, W>, number: u64, plays: u64)
     ensures { Writes W.contents text.old text.new (spec.play_text number plays) }

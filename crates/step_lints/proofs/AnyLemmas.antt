@@ -1,4 +1,4 @@
--- Whether one of some elements passes, one more of them each time.
+-- Whether one of some elements passes, with one more of them each time.
 use Rattle.std.proofs.Common.{◌≡◌, ℕ, ◌+◌, ◌<◌, Bool, true, false, ◌||◌, List, [], ◌∷◌, ◌++◌, length}
 use Rattle.std.proofs.Common.{take, get_or, refl, sym, ap, ◌∙◌}
 use Rattle.std.specs.List.{list_any}

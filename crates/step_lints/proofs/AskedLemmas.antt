@@ -1,4 +1,4 @@
--- What a step misses on hosts, one on each.
+-- The names that a step may read undefined, one set per host.
 use Rattle.std.proofs.Common.{◌≡◌, ℕ, ◌+◌, ◌<◌, Bool, true, false, cond, ◌||◌, is_some, option_map, Some, List, [], ◌∷◌, ◌++◌, get_or, length, map, take, refl, sym, ap, ◌∙◌}
 use Rattle.std.specs.List.{find, list_any}
 use Rattle.std.proofs.lemmas.Grind.{take_at_read}
@@ -25,7 +25,7 @@ module _ (missed : ℕ → List Name) (hosts : List ℕ) (sets : List NameSet) w
   pub as_many : AreMissed missed hosts sets → length sets ≡ length hosts
   as_many are = sym (length-map sets has_missed) ∙ ap (λ (l : List (Name → Bool)). length l) are ∙ length-map hosts on
 
-  -- the one at a place is of the host there
+  -- the set at an index is that of the host there
   pub set_at : (place : ℕ) (one : NameSet) (name : Name) → place < length hosts → place < length sets → one ≡ get_or sets place one → AreMissed missed hosts sets
       → has_missed one name ≡ is_among name (missed (get_or hosts place 0))
   set_at place one name within also is are =
@@ -33,7 +33,7 @@ module _ (missed : ℕ → List Name) (hosts : List ℕ) (sets : List NameSet) w
       ∙ ap (λ (test : Name → Bool). test name)
       (sym (get_or-map has_missed sets place one (on 0) also) ∙ ap (λ (l : List (Name → Bool)). get_or l place (on 0)) are ∙ get_or-map on hosts place 0 (on 0) within)
 
--- something is found just where there is one
+-- something is found exactly if there is one
 pub found_any : {X : Type 0} (test : ℕ → Bool) (note : ℕ → X) (hosts : List ℕ) → is_some (option_map note (find test hosts)) ≡ list_any test hosts
 found_any test note [] = refl
 found_any test note (host ∷ hosts) = by_case (test host) (found_any test note hosts)

@@ -1,4 +1,4 @@
--- What conditions find on the hosts is what the inventory gives them.
+-- Conditions read on the hosts what the inventory defines for them.
 use Rattle.std.proofs.Common.{◌≡◌, ℕ, zero, suc, ◌<◌, Bool, Option, Some, List, [], ◌∷◌, ◌++◌, ◌+◌, get_or, slice_get, length, map, take, arith, refl, sym, ap, ◌∙◌}
 use Rattle.std.specs.Prelude.{All, filter}
 use Rattle.std.proofs.lemmas.List.Elements.{All-head, All-tail, filter_more}
@@ -18,7 +18,7 @@ use Rattle.step_lints.specs.Hosts.{foreseen_at, foreseen_of, foreseen_with, valu
 use Rattle.step_lints.specs.Inside.{foreseen_by, foreseen_in, value_in}
 use Rattle.step_lints.specs.Lacks.{value_by}
 
--- a host without results has just its variables
+-- a host without results has only its variables
 value_found : (vars : Vars) (name : Name) → HasNoResult vars → value_by (Some vars) name ≡ value_from (Some (variables_of vars)) name
 value_found vars name bare = ap (λ (row : Option Row). result_or_variable row ((variables_of vars).variable name)) (bare.results name)
 

@@ -1,4 +1,4 @@
--- The names to which an inventory gives a value, and what hosts lack therefore.
+-- The names that an inventory defines, and what hosts therefore lack.
 use Rattle.std.proofs.Common.{◌≡◌, ℕ, ◌<◌, ◌≤◌, Bool, true, false, cond, ◌||◌, is_none, Option, Some, None, option_map, List, [], ◌∷◌, map, flat_map, get_or, slice_get, length, refl, sym, ap, subst, ◌∙◌, inl, inr}
 use Rattle.std.specs.Prelude.{All, ◌⊎◌}
 use Rattle.std.specs.List.{filter, list_any}
@@ -41,7 +41,7 @@ place_names name place = is_named name place.variables
 abbrev row_names : Name → Row → Bool
 row_names name row = is_named name row.variables
 
--- a name that no variable has, has no value
+-- a name that no variable has doesn't have a value
 no_value : (name : Name) (variables : List Variable) → is_named name variables ≡ false → value_of name variables ≡ None
 no_value name [] none = refl
 no_value name (variable ∷ later) none =
@@ -54,7 +54,7 @@ named_each name has [] = refl
 named_each name has (x ∷ xs) =
     list_any-append (λ (variable : Variable). same_name name variable.name) (has x) (flat_map has xs) ∙ ap (λ b. is_named name (has x) || b) (named_each name has xs)
 
--- what none passes, none of some does
+-- if no element passes, none of a part does
 none_kept : {X : Type 0} (test kept : X → Bool) (xs : List X) → list_any test xs ≡ false → list_any test (filter kept xs) ≡ false
 none_kept test kept [] none = refl
 none_kept test kept (x ∷ xs) none = by_case (kept x) (none_kept test kept xs (neither_right (test x) (list_any test xs) none))
@@ -63,7 +63,7 @@ none_kept test kept (x ∷ xs) none = by_case (kept x) (none_kept test kept xs (
     by_case true later = neither (test x) (list_any test (filter kept xs)) (neither_left (test x) (list_any test xs) none) later
     by_case false later = later
 
--- a host has no variable of a name that is not given
+-- a host has no variable of a name that is not defined
 pub gives_none : (inventory : Inventory) (host name : Name) (view : HostView) → IsHostOf inventory host view → is_given inventory name ≡ false → view.variable name ≡ None
 gives_none inventory host name view is none =
     let places = neither_left (list_any (place_names name) inventory.places) (list_any (row_names name) inventory.rows) none in
@@ -80,7 +80,7 @@ gives_none inventory host name view is none =
     (list_any-append (λ (variable : Variable). same_name name variable.name) groups (own_variables inventory host)
     ∙ neither (is_named name groups) (is_named name (own_variables inventory host)) held own)
 
--- nor does any of all hosts
+-- nor does any of the hosts
 pub all_given : (inventory : Inventory) (hosts : List Name) (vars : List Vars) → AreHostsOf inventory hosts (map variables_of vars) → All HasNoResult vars
     → (passes : Name → Bool) → ((name : Name) → passes name ≡ is_given inventory name) → AreAllGiven passes vars
 all_given inventory hosts vars are bare passes same name none host =
@@ -99,7 +99,7 @@ all_given inventory hosts vars are bare passes same name none host =
         ∙ ap (λ (value : Option Scalar). is_none (option_map Plain value)) (gives_none inventory (host_at hosts host) name view of (sym (same name) ∙ none))
     by_case (inr past) = ap (λ (v : Option HostView). is_none (value_from v name)) past.1
 
--- what a walk gives is what the inventory does
+-- a traversal finds the same names as the inventory
 hosts_given : (name : Name) (place : Place) (hosts : List Host) → list_any (row_names name) (map (row_at place) hosts) ≡ hosts_give name hosts
 hosts_given name place [] = refl
 hosts_given name place (host ∷ hosts) = ap (λ b. is_named name host.variables || b) (hosts_given name place hosts)

@@ -1,4 +1,4 @@
--- What is kept of the values that hosts have.
+-- The stored facts about the values that hosts have.
 use Rattle.std.proofs.Common.{◌≡◌, ℕ, ◌+◌, Bool, true, false, cond, not, ◌&&◌, is_none, Bor, Option, None, Some, option_map, List, [], ◌∷◌, length, arith, sym, ap, ◌∙◌, refl}
 use Rattle.std.specs.List.{find, list_all}
 use Rattle.std.specs.Prelude.{bytes_eq, count_by}
@@ -16,7 +16,7 @@ abbrev pub Puts : {S : Type 0} → HashMap (Bor (List ℕ)) Facts S → HashMap 
 Puts old new key facts =
     UpdatesBy (λ (x y : Bor (List ℕ)). bytes_eq x.now y.now) (λ (k : Bor (List ℕ)). bytes_eq key k.now) old new (Some facts)
 
--- one more is kept
+-- one more fact is stored
 pub learned : {S : Type 0} (vars : List Vars) (waiting : List ℕ) (old new : HashMap (Bor (List ℕ)) Facts S) (key : Name) (facts : Facts) → Puts old new key facts
     → facts ≡ facts_in vars waiting key → KnowsFacts vars waiting old → KnowsFacts vars waiting new
 learned vars waiting old new key facts puts right knows name found is = by_case (same_name key name) refl
@@ -32,7 +32,7 @@ learned vars waiting old new key facts puts right knows name found is = by_case 
         sym one ∙ right ∙ ap (facts_in vars waiting) named
     by_case false same = knows name found (sym (there ∙ ap (λ b. cond b (Some facts) (known_facts old name)) same) ∙ is)
 
--- what each host lacks, all of them lack
+-- if each host lacks it, all of them do
 count_all : (test : ℕ → Bool) → ((host : ℕ) → test host ≡ true) → (hosts : List ℕ) → count_by test hosts ≡ length hosts
 count_all test all hosts =
     sym (is_count_by length test refl (λ host later. length-cons host later ∙ ap (λ b. cond b (1 + length later) (length later)) (sym (all host))) hosts)
@@ -40,7 +40,7 @@ count_all test all hosts =
     length-cons : (host : ℕ) (later : List ℕ) → length (host ∷ later) ≡ 1 + length later
     length-cons host later = omega arith
 
--- a host that has nothing is not the same as itself
+-- a host without a value is not the same as itself
 none_same : (value : Option Value) → is_none value ≡ true → are_same value value ≡ false
 none_same None is = refl
 none_same (Some value) is = absurd (cc)

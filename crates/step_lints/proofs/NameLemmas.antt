@@ -1,4 +1,4 @@
--- Notes on names.
+-- Warnings about names.
 use Rattle.std.proofs.Common.{◌≡◌, ◌==◌, Bool, Bor, true, false, cond, ◌&&◌, ◌||◌, List, [], ◌∷◌, ◌++◌, length}
 use Rattle.std.proofs.Common.{arith, flat_map, refl, sym, ap, ◌∙◌, append-nil}
 use Rattle.std.specs.List.{filter}
@@ -10,7 +10,7 @@ use Rattle.step_lints.specs.Inside.{names_of}
 use Rattle.step_lints.specs.NamesRead.{once_after, read_before, read_behind}
 use Rattle.step_lints.specs.Results.{is_unsure, may_be_away, names_unsure, whole_in_words}
 
--- nothing is noted of no names
+-- no names give no warnings
 pub none_noted : (notes : Name → List Note) (lent : List (Bor Name)) (names : List Name) (before : List Note) → (length lent == 0) ≡ true → names_of lent ≡ names
     → before ≡ before ++ flat_map notes names
 none_noted notes [] names before none are = sym (append-nil before) ∙ ap (λ (l : List Name). before ++ flat_map notes l) are
@@ -20,7 +20,7 @@ pub none_filtered : {X : Type 0} (test : X → Bool) (list : List X) → ((x : X
 none_filtered test [] none = refl
 none_filtered test (x ∷ list) none = ap (λ (b : Bool). cond b (x ∷ filter test list) (filter test list)) (none x) ∙ none_filtered test list none
 
--- where no step before registers anything, no result is looked for
+-- if no earlier step registers anything, no result is looked for
 pub none_unsure : (is_set : Name → Bool) → ((name : Name) → is_set name ≡ false) → (tasks : List Step) (step : Step) → [] ≡ names_unsure is_set tasks step
 none_unsure is_set none tasks step =
     let unsure : (name : Name) → is_unsure is_set tasks step name ≡ false = λ name.

@@ -1,4 +1,4 @@
--- Names, each where it stands first.
+-- Names, each where it appears first.
 use Rattle.std.proofs.Common.{◌≡◌, ℕ, Bool, true, false, cond, not, ◌&&◌, ◌||◌, Bor, List, [], ◌∷◌, ◌++◌, flat_map, refl, sym, ap, ◌∙◌, append_assoc, append-nil}
 use Rattle.std.specs.List.{filter}
 use Rattle.std.proofs.lemmas.Slice.Eq.{bytes_eq-Decides}
@@ -26,7 +26,7 @@ passed_over before names name is = ap (λ b. cond b (once_after before names) (n
 pub taken : (before names : List Name) (name : Name) → is_among name before ≡ false → once_after before (name ∷ names) ≡ name ∷ once_after (before ++ name ∷ []) names
 taken before names name is = ap (λ b. cond b (once_after before names) (name ∷ once_after (before ++ name ∷ []) names)) is
 
--- of two lists, one behind the other
+-- two concatenated lists
 append_step : (before names others : List Name) (first : Name) (stood : Bool) → is_among first before ≡ stood
     → ((from : List Name) → once_after from (names ++ others) ≡ once_after from names ++ once_after (from ++ once_after from names) others)
     → once_after before (first ∷ (names ++ others)) ≡ once_after before (first ∷ names) ++ once_after (before ++ once_after before (first ∷ names)) others
@@ -57,7 +57,7 @@ among_pushed lent name other =
     or_none true = refl
     or_none false = refl
 
--- both passes, one behind the other
+-- both passes in sequence
 pub both_once : (names others : List Name) (first second : List Name) → first ≡ once_after [] names → second ≡ first ++ once_after first others → second ≡ once_after [] (names ++ others)
 both_once names others first second is also =
     also ∙ ap (λ (l : List Name). l ++ once_after l others) is ∙ sym (once_append [] names others)
@@ -70,7 +70,7 @@ fresh_append test before names others =
     ∙ ap (λ (l : List Name). before ++ l) (once_append before first second)
     ∙ sym (append_assoc before (once_after before first) (once_after (before ++ once_after before first) second))
 
--- one name more, which is fresh or isn't
+-- one more name, which is fresh or isn't
 pub one_fresh : (test : Name → Bool) (before names : List Name) (name : Name) → (test name && not (is_among name before)) ≡ true
     → with_fresh test (before ++ name ∷ []) names ≡ with_fresh test before (name ∷ names)
 one_fresh test before names name is = by_case (test name) (is_among name before) refl is

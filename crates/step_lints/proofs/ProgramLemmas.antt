@@ -1,4 +1,4 @@
--- The program that words call.
+-- The program that a command calls.
 use Rattle.std.proofs.Common.{◌≡◌, cond, not, Some, None, List, [], ◌∷◌, refl, length, sym, ap, arith}
 use Rattle.std.proofs.lemmas.Bool.{ne_eqb}
 use Rattle.std.specs.Prelude.{◌==◌, ◌&&◌, false}

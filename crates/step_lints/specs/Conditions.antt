@@ -1,4 +1,4 @@
--- What the tests of a condition ask.
+-- What the tests of a condition examine.
 use Rattle.std.specs.Prelude.{Bool, true, false, not, ◌&&◌, ◌||◌, Option, None, Some}
 use Rattle.std.specs.List.{list_any}
 use Rattle.cond.specs.Grammar as grammar
@@ -19,7 +19,7 @@ looks_up (grammar.number value) = false
 looks_up (grammar.truth value) = false
 looks_up (grammar.ref of) = true
 
--- the test reads something, or asks for a group
+-- the test reads something, or tests for a group
 abbrev pub asks : Test → Bool
 asks (grammar.stands name contrary state) = true
 asks (grammar.defined of contrary) = true
@@ -27,7 +27,7 @@ asks (grammar.equals left contrary right) = looks_up left || looks_up right
 asks (grammar.within group contrary) = true
 asks (grammar.alone operand) = looks_up operand
 
--- it asks for a group, or compares what it reads
+-- it tests for a group, or compares what it reads
 abbrev pub matches : Test → Bool
 matches (grammar.stands name contrary state) = false
 matches (grammar.defined of contrary) = false
@@ -41,7 +41,7 @@ is_truth (grammar.number value) = false
 is_truth (grammar.truth value) = true
 is_truth (grammar.ref of) = false
 
--- it asks only whether a value is true, or defined: such a test switches a step on or off
+-- it tests only whether a value is true, or defined: such a test switches a step on or off
 abbrev pub switches : Test → Bool
 switches (grammar.stands name contrary state) = false
 switches (grammar.defined of contrary) = true
@@ -58,7 +58,7 @@ answers Switches one = switches one.test
 abbrev pub has_test : TestPredicate → Option Cond → Bool
 has_test question condition = list_any (answers question) (tests_if condition)
 
--- it asks for groups and values, and not only whether one is true, or defined
+-- it tests for groups and values, and not only whether one is true, or defined
 abbrev pub is_matched : Option Cond → Bool
 is_matched when = has_test Matches when && not (has_test Switches when)
 

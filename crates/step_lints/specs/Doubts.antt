@@ -1,4 +1,4 @@
--- Conditions that ask for what doesn't exist, those that come out the same whatever happens, and those by which a step runs only after a change.
+-- Conditions that test for what doesn't exist, that are constant, or by which a step runs only after a change.
 use Rattle.std.specs.Prelude.{Bool, not, ◌||◌, if◌then◌else◌, Option, None, Some, option_map, List, [], ◌∷◌, ◌++◌, codes}
 use Rattle.std.specs.Option.{option_or}
 use Rattle.cond.specs.Grammar as grammar
@@ -18,7 +18,7 @@ use Rattle.step_lints.specs.Tests.{Stated, tests_if}
 use Rattle.step_lints.specs.declared.condition_rules.ConditionRule.{ConditionRule}
 use Rattle.step_lints.specs.declared.condition_rules.ConditionRule.TheVariants.{NamesNoGroup, NamesNoHost, HasHole, IsConstant, AsksChanged}
 
--- the group for which the test asks, if it is none of these
+-- the group that the test names, if it is none of these
 abbrev pub unknown_group_in : List Name → Test → Option Name
 unknown_group_in groups (grammar.stands name contrary state) = None
 unknown_group_in groups (grammar.defined of contrary) = None
@@ -59,7 +59,7 @@ holed (grammar.number value) = None
 holed (grammar.truth value) = None
 holed (grammar.ref of) = None
 
--- the first such string that the test compares, or that is alone; the name of a group is another thing
+-- the first such string that the test compares, or that is the entire test; the name of a group is not such a string
 abbrev pub holed_in : Test → Option Name
 holed_in (grammar.stands name contrary state) = None
 holed_in (grammar.defined of contrary) = None
@@ -67,7 +67,8 @@ holed_in (grammar.equals left contrary right) = option_or (holed left) (holed ri
 holed_in (grammar.within group contrary) = None
 holed_in (grammar.alone operand) = holed operand
 
--- The name of the result, if the test holds only if its step changed something. After a failed attempt a second one changes nothing, so the test doesn't hold.
+-- The name of the result, if the test holds only if its step changed something. After a failed attempt a second one changes nothing, so the
+-- test doesn't hold.
 abbrev pub if_changed : Bool → State → Name → Option Name
 if_changed turned state.Changed name = if turned then None else Some name
 if_changed turned state.Failed name = None
@@ -81,7 +82,7 @@ changed_in denied (grammar.equals left contrary right) = None
 changed_in denied (grammar.within group contrary) = None
 changed_in denied (grammar.alone operand) = None
 
--- the group, the host, the string or the result for which the test may not be meant; before its step come these tasks
+-- the group, the host, the string or the result that makes the test probably a mistake; these tasks precede its step
 abbrev pub doubted_in : ConditionRule → FleetView → List Step → Stated → Option Name
 doubted_in NamesNoGroup = λ fleet tasks one. unknown_group_in fleet.groups one.test
 doubted_in NamesNoHost = λ fleet tasks one. unknown_host_in fleet.hosts one.test
@@ -89,7 +90,7 @@ doubted_in HasHole = λ fleet tasks one. holed_in one.test
 doubted_in IsConstant = λ fleet tasks one. constant_in tasks one
 doubted_in AsksChanged = λ fleet tasks one. changed_in one.denied one.test
 
--- the first such of some tests
+-- the first of these among some tests
 abbrev pub first_doubted : ConditionRule → FleetView → List Step → List Stated → Option Name
 first_doubted doubt fleet tasks [] = None
 first_doubted doubt fleet tasks (one ∷ tests) = option_or (doubted_in doubt fleet tasks one) (first_doubted doubt fleet tasks tests)
@@ -101,7 +102,7 @@ noted_doubt HasHole = text_hole
 noted_doubt IsConstant = constant_test
 noted_doubt AsksChanged = λ at key. changed_guard at
 
--- of the condition under this key
+-- for the condition under this key
 abbrev pub doubt_note : ConditionRule → FleetView → List Step → StepPath → Name → Option Cond → Option Note
 doubt_note doubt fleet tasks at key condition = option_map (noted_doubt doubt at key) (first_doubted doubt fleet tasks (tests_if condition))
 
@@ -110,7 +111,7 @@ condition_notes fleet tasks at key condition =
     noted (doubt_note NamesNoGroup fleet tasks at key condition) ++ (noted (doubt_note NamesNoHost fleet tasks at key condition)
     ++ (noted (doubt_note HasHole fleet tasks at key condition) ++ noted (doubt_note IsConstant fleet tasks at key condition)))
 
--- what judges a step's own end may ask for its failure
+-- the conditions that judge a step's own end may test for its failure
 abbrev pub conditions_notes : FleetView → List Step → StepPath → Step → List Note
 conditions_notes fleet tasks at step =
     condition_notes fleet tasks at (codes "when") step.when

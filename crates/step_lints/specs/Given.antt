@@ -1,4 +1,4 @@
--- The names to which an inventory gives a value, on whatever host.
+-- The names that an inventory defines on any host.
 use Rattle.std.specs.Prelude.{◌≡◌, ℕ, Bool, true, false, ◌||◌, List}
 use Rattle.std.specs.List.{list_any}
 use Rattle.group_tree.specs.Names.{Name, same_name}
@@ -32,6 +32,6 @@ group_gives name group = is_named name group.variables || hosts_give name group.
 abbrev pub groups_give : Name → List (Subtree × ℕ) → Bool
 groups_give name walk = list_any (λ (walked : Subtree × ℕ). group_gives name walked.0) walk
 
--- each host lacks whatever doesn't pass
+-- each host lacks every name that doesn't pass
 abbrev pub AreAllGiven : (Name → Bool) → List Vars → Type 0
 AreAllGiven passes vars = (name : Name) → passes name ≡ false → (host : ℕ) → lacks_in vars name host ≡ true

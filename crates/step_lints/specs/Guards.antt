@@ -1,4 +1,4 @@
--- The names of which a condition asks whether they are defined.
+-- The names that a condition tests with `is defined`.
 use Rattle.std.specs.Prelude.{Option, List, []}
 use Rattle.std.specs.List.{flat_map}
 use Rattle.cond.specs.Grammar as grammar
@@ -8,7 +8,7 @@ use Rattle.cond.specs.declared.condition.Cond.{Cond}
 use Rattle.group_tree.specs.Names.{Name}
 use Rattle.step_lints.specs.Tests.{Stated, tests_if}
 
--- the name, or that of a field, of which the test asks whether it is defined
+-- the name, or that of a field, that the test examines with `is defined`
 abbrev pub guarded_in_test : Test → List Name
 guarded_in_test (grammar.stands name contrary state) = []
 guarded_in_test (grammar.defined of contrary) = names_in_ref of

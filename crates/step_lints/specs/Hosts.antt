@@ -28,7 +28,7 @@ down_for fleet play = filter (is_off fleet) (targets fleet play)
 abbrev pub waiting_for : FleetView → Play → List ℕ
 waiting_for fleet play = filter (λ host. not (is_off fleet host)) (targets fleet play)
 
--- what is noted of the hosts of the play with this number: that nobody waits, or else that some are down
+-- the warning about the hosts of the play with this number: none waits, or otherwise some are down
 abbrev pub hosts_note : FleetView → ℕ → List ℕ → List ℕ → Option Note
 hosts_note fleet number [] down = Some (no_hosts number)
 hosts_note fleet number (host ∷ waiting) [] = None
@@ -37,7 +37,7 @@ hosts_note fleet number (host ∷ waiting) (first ∷ down) = Some (down_hosts n
 abbrev pub play_note : FleetView → ℕ → Play → Option Note
 play_note fleet number play = hosts_note fleet number (waiting_for fleet play) (down_for fleet play)
 
--- what a variable of this name has on the host, its own or a group's, if there is such a host
+-- the value that a variable of this name has on the host, its own or a group's, if there is such a host
 abbrev pub value_from : Option HostView → Name → Option Value
 value_from None name = None
 value_from (Some host) name = option_map Plain (host.variable name)
@@ -45,19 +45,19 @@ value_from (Some host) name = option_map Plain (host.variable name)
 abbrev pub value_of : List HostView → Name → ℕ → Option Value
 value_of hosts name host = value_from (slice_get hosts host) name
 
--- what is known of a step on a host before anything has run: which names it may look up in vain, and whether its `when` is known not to hold
+-- what is known of a step on a host before anything has run: which names it may read undefined, and whether its `when` is known not to hold
 pub record Foreseen : Type 0 where
   pub missed : List Name
   pub is_skipped : Bool
 
--- of the step at this place of the play with this number, both from 0, on a host of which this is known
+-- for the step at this index of the play with this number, both from 0, on a host of which this is known
 abbrev pub foreseen_at : FleetView → List Play → ℕ → ℕ → ℕ → Known → Foreseen
 foreseen_at fleet plays number place host known = record {
   missed = missed_at fleet plays number place host known;
   is_skipped = skipped_at fleet plays number place host known;
 }
 
--- nothing where there is no such host
+-- nothing if there is no such host
 abbrev pub foreseen_with : FleetView → List Play → ℕ → ℕ → ℕ → Option HostView → Foreseen
 foreseen_with fleet plays number place host None = record { missed = []; is_skipped = false }
 foreseen_with fleet plays number place host (Some view) = foreseen_at fleet plays number place host (fresh view)
@@ -68,7 +68,8 @@ foreseen_of fleet plays hosts number place host = foreseen_with fleet plays numb
 abbrev pub missed_on : (ℕ → Foreseen) → ℕ → List Name
 missed_on foreseen host = (foreseen host).missed
 
--- the hosts that wait for a play, what names have on each host, whether the inventory gives them a value somewhere, whether their values may differ between the hosts, and whether a step of the play calls `ssh`
+-- the hosts that wait for a play, the value of each name on each host, whether the inventory defines the names somewhere, whether their
+-- values can differ between the hosts, and whether a step of the play calls `ssh`
 pub record WaitingHosts : Type 0 where
   pub fleet : FleetView
   pub value : Name → ℕ → Option Value
@@ -94,7 +95,7 @@ crowd_for fleet value gives play = record {
 abbrev pub lacks : WaitingHosts → Name → ℕ → Bool
 lacks crowd name host = is_none (crowd.value name host)
 
--- a waiting host has none
+-- a waiting host has no variable of this name
 abbrev pub is_lacked : WaitingHosts → Name → Bool
 is_lacked crowd name = list_any (lacks crowd name) crowd.waiting
 
@@ -117,12 +118,13 @@ misses_by crowd missed step = if has_conditions step then misses missed else lac
 abbrev pub skip_all : WaitingHosts → (ℕ → Foreseen) → Bool
 skip_all crowd foreseen = nat_lt 0 (length crowd.waiting) && list_all (λ host. (foreseen host).is_skipped) crowd.waiting
 
--- This many of the waiting hosts may read the name undefined, first this one. A step before registers it, or else it may be one that all of them lack, or that no host of the inventory has.
+-- This many of the waiting hosts may read the name undefined, first this one. An earlier step registers it; otherwise all of them may lack
+-- it, or no host of the inventory may have it.
 abbrev pub noted_lack : WaitingHosts → Bool → StepPath → Name → ℕ → ℕ → Note
 noted_lack crowd is_result at name hosts first =
     if is_result then missing_result at name hosts (length crowd.waiting) (host_at crowd.fleet.hosts first)
     else (if hosts == length crowd.waiting || not (crowd.gives name) then unknown_name at name None else missing_name at name hosts (length crowd.waiting) (host_at crowd.fleet.hosts first))
 
--- what is noted of a name, by the hosts on which it may be undefined: nothing if there is none
+-- the warning about a name, given the hosts on which it may be undefined: nothing if there is none
 abbrev pub name_note : WaitingHosts → Bool → (Name → ℕ → Bool) → StepPath → Name → Option Note
 name_note crowd is_result lacking at name = option_map (noted_lack crowd is_result at name (count_by (lacking name) crowd.waiting)) (find (lacking name) crowd.waiting)

@@ -1,4 +1,4 @@
--- What the passes keep.
+-- What the passes maintain.
 use Rattle.std.specs.Prelude.{◌≡◌, ℕ, Bool, false, Option, None, Some, List, [], ◌++◌, filter, map, slice_get}
 use Rattle.std.specs.Borrow.{Bor}
 use Rattle.group_tree.specs.Names.{Name, is_among}
@@ -22,7 +22,7 @@ use Rattle.step_lints.specs.declared.differing.Results.{Results}
 use Rattle.step_lints.specs.declared.step_context.StepContext.{StepContext}
 use Rattle.step_lints.specs.declared.registered.Registered.{Registered}
 
--- what is foreseen of the step there on a host that has these variables
+-- what is predicted of the step there on a host that has these variables
 abbrev pub foreseen_by : FleetView → List Play → ℕ → ℕ → ℕ → Option Vars → Foreseen
 foreseen_by fleet plays number place host None = record { missed = []; is_skipped = false }
 foreseen_by fleet plays number place host (Some vars) = foreseen_at fleet plays number place host (known_of vars)
@@ -30,7 +30,7 @@ foreseen_by fleet plays number place host (Some vars) = foreseen_at fleet plays 
 abbrev pub foreseen_in : FleetView → List Play → List Vars → ℕ → ℕ → ℕ → Foreseen
 foreseen_in fleet plays vars number place host = foreseen_by fleet plays number place host (slice_get vars host)
 
--- of each step of its play, by its place
+-- for each step of its play, by index
 abbrev pub foreseen_beside : StepContext → List Vars → ℕ → ℕ → Foreseen
 foreseen_beside stand vars = foreseen_in stand.registry.now.fleet.now stand.registry.now.plays.now vars stand.number
 
@@ -48,19 +48,19 @@ AreListed missed names = (name : Name) → has_missed missed name ≡ is_among n
 abbrev pub with_fresh : (Name → Bool) → List Name → List Name → List Name
 with_fresh test before names = before ++ once_after before (filter test names)
 
--- these have the names that are missed on the hosts, one on each
+-- these contain the names that each of the hosts may read undefined
 abbrev pub AreMissed : (ℕ → List Name) → List ℕ → List NameSet → Type 0
 AreMissed missed hosts sets = map has_missed sets ≡ map (λ host name. is_among name (missed host)) hosts
 
--- the names that were gathered
+-- the names that were collected
 abbrev pub has_name : Registered → Name → Bool
 has_name registered = has_missed registered.names
 
--- not all waiting hosts have the same value of the name
+-- the value of the name differs between the waiting hosts
 abbrev pub varies_in : MissingNames → Name → Bool
 varies_in lacks name = varies_among (value_in lacks.vars.now name) lacks.waiting.now
 
--- the value of the name may differ, by the results of the play's steps
+-- the value of the name can differ, given the results of the play's steps
 abbrev pub differs_in : MissingNames → Results → Name → Bool
 differs_in lacks results = name_differs (has_name results.own) (has_name results.varied) (varies_in lacks)
 
@@ -77,7 +77,7 @@ crowd_of crowd = record {
 abbrev pub names_of : List (Bor Name) → List Name
 names_of lent = map (λ (name : Bor Name). name.now) lent
 
--- a test, as its words are in its text
+-- a test, with its words as they are in its text
 abbrev pub said : SpannedTest → Stated
 said one = record { test = written one.text.now one.test; denied = one.denied }
 

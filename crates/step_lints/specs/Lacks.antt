@@ -1,4 +1,4 @@
--- The values that names have on hosts, and what the waiting hosts have of them, as far as that was looked up.
+-- The values that names have on hosts, and the facts about them on the waiting hosts that have been resolved.
 use Rattle.std.specs.Prelude.{◌≡◌, ℕ, Bool, true, false, not, is_none, Option, None, Some, option_map, List, [], ◌∷◌, count_by, length, slice_get}
 use Rattle.std.specs.Borrow.{Bor}
 use Rattle.std.specs.HashMap.{HashMap, get_by}
@@ -10,7 +10,7 @@ use Rattle.host_vars.specs.declared.vars.Vars.{Vars}
 use Rattle.step_lints.specs.declared.missing_count.MissingCount.{MissingCount}
 use Rattle.step_lints.specs.declared.missing_count.Facts.{Facts}
 
--- what conditions find under the name on the host
+-- the value that conditions read under the name on the host
 abbrev pub value_by : Option Vars → Name → Option Value
 value_by None name = None
 value_by (Some vars) name = (environment_of vars).value name
@@ -26,13 +26,13 @@ abbrev pub lack_in : List Vars → List ℕ → Name → Option MissingCount
 lack_in vars waiting name =
     option_map (λ first. record { hosts = count_by (lacks_in vars name) waiting; first = first }) (find (lacks_in vars name) waiting)
 
--- both hosts have a value, and the same
+-- both hosts have a value, and it is the same
 abbrev pub are_same : Option Value → Option Value → Bool
 are_same None other = false
 are_same (Some value) None = false
 are_same (Some value) (Some other) = same_value value other
 
--- not all of the hosts have the value that the first one has
+-- not all of the hosts have the same value as the first one
 abbrev pub varies_among : (ℕ → Option Value) → List ℕ → Bool
 varies_among value [] = false
 varies_among value (first ∷ hosts) = not (list_all (λ host. are_same (value first) (value host)) (first ∷ hosts))
@@ -40,7 +40,7 @@ varies_among value (first ∷ hosts) = not (list_all (λ host. are_same (value f
 abbrev pub facts_in : List Vars → List ℕ → Name → Facts
 facts_in vars waiting name = record { lack = lack_in vars waiting name; varies = varies_among (value_in vars name) waiting }
 
--- of a name that no host has
+-- for a name that no host has
 abbrev pub facts_of_none : List ℕ → Facts
 facts_of_none [] = record { lack = None; varies = false }
 facts_of_none (host ∷ hosts) = record { lack = Some (record { hosts = length (host ∷ hosts); first = host }); varies = true }
@@ -48,6 +48,6 @@ facts_of_none (host ∷ hosts) = record { lack = Some (record { hosts = length (
 abbrev pub known_facts : {S : Type 0} → HashMap (Bor Name) Facts S → Name → Option Facts
 known_facts known name = get_by (λ key. same_name name key.now) known
 
--- what is kept of a name is so
+-- the stored facts about a name are true
 abbrev pub KnowsFacts : {S : Type 0} → List Vars → List ℕ → HashMap (Bor Name) Facts S → Type 0
 KnowsFacts vars waiting known = (name : Name) (facts : Facts) → known_facts known name ≡ Some facts → facts ≡ facts_in vars waiting name

@@ -1,4 +1,4 @@
--- What stands in one word and should be several, and what is several at the other end of `ssh`, which joins its words by blanks.
+-- One argument that should be several, and one that `ssh` splits on the remote host because it joins its arguments with spaces.
 use Rattle.std.specs.Prelude.{ℕ, Bool, not, ◌==◌, ◌&&◌, ◌||◌, if◌then◌else◌, Option, None, Some, option_map, List, [], ◌∷◌, codes, slice_index, take}
 use Rattle.std.specs.List.{list_any, prefix_len}
 use Rattle.std.specs.Option.{option_or}
@@ -12,15 +12,15 @@ use Rattle.lint_rules.specs.declared.step_path.StepPath.{StepPath}
 abbrev pub has_blank : Name → Bool
 has_blank = list_any is_blank
 
--- how many bytes stand before the first brace, at which a hole may begin
+-- how many bytes precede the first brace, at which a placeholder may start
 abbrev pub plain_bytes : Name → ℕ
 plain_bytes word = prefix_len (λ byte. not (byte == 123)) word
 
--- a blank stands before what may be a hole
+-- whitespace precedes a possible placeholder
 abbrev pub is_several : Name → Bool
 is_several word = has_blank (take (plain_bytes word) word)
 
--- no name of a program: it is of several words, or sets a variable as a shell would
+-- not the name of a program: it consists of several words, or sets a variable as a shell would
 abbrev pub is_no_program : Name → Bool
 is_no_program word = is_several word || has_equals word
 
@@ -31,15 +31,15 @@ blank_program_of (program ∷ words) = if is_no_program program then Some progra
 abbrev pub blank_note : StepPath → Step → Option Note
 blank_note at step = option_map (blank_program at) (blank_program_of step.words)
 
--- behind which a shell, and many another program, reads one word as a script
+-- after this option a shell, and many another program, reads one word as a script
 unfoldable pub is_script_option : Name → Bool
 is_script_option word = is_among word (codes "-c" ∷ codes "-lc" ∷ codes "-ec" ∷ codes "-xc" ∷ [])
 
--- a script of several words, without a quote in front that would keep them together
+-- a script of several words, without a leading quote that would keep them together
 abbrev pub is_torn : Name → Bool
 is_torn script = not (slice_index script 0 == 39 || slice_index script 0 == 34) && is_several script
 
--- the first of the words that follow this one, where this is such an option and that is torn
+-- the first of the words that follow this one, if this is such an option and `ssh` splits that
 abbrev pub torn_behind : Name → List Name → Option Name
 torn_behind option [] = None
 torn_behind option (script ∷ words) = if is_script_option option && is_torn script then Some script else None

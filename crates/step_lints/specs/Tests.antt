@@ -11,7 +11,7 @@ use Rattle.cond.specs.declared.tree.Tree.TheOpen.{Tree-F}
 use Rattle.cond.specs.declared.tree.Tree.TheOpen as tree
 use Rattle.cond.specs.declared.tree.Tree.TheFolds.{fold-Tree}
 
--- a test, and whether a `not` precedes it, at once or before brackets round it
+-- a test, and whether a `not` precedes it, directly or before parentheses around it
 pub record Stated : Type 0 where
   pub test : Test
   pub denied : Bool
@@ -36,7 +36,7 @@ abbrev pub tests_in_part : List ℕ → List Tree → Part → List Stated
 tests_in_part text trees (part.Test denied bytes test) = record { test = written text test; denied = denied } ∷ []
 tests_in_part text trees (part.Trees bytes count) = all_of false (map (tests_in_tree text) trees)
 
--- in each part; their texts are in sequence, and so are their trees
+-- in each part; the texts are in sequence, and so are the trees
 abbrev pub tests_by_part : List ℕ → List Tree → List Part → List Stated
 tests_by_part text trees [] = []
 tests_by_part text trees (part ∷ parts) =

@@ -1,4 +1,4 @@
-//! The notes on the words that a program gets.
+//! The warnings about the arguments of a program.
 ghost use Rattle.std.specs.Prelude.{◌≡◌, drop, option_map};
 ghost use Rattle.step_lints.specs.Arguments as model;
 ghost use Rattle.step_lints.specs.Inside.{crowd_of};
@@ -9,7 +9,7 @@ use lint_rules::{Note, StepPath};
 use play_model::{Step, Words};
 use text_syntax::{Part, Ref, first_word_part};
 
-/// Whether the word starts with a placeholder for the host's own name.
+/// Reports whether the word starts with a placeholder for the host's own name.
 fn starts_with_host(word: &str) -> bool
     ensures { result ≡ model.starts_with_host word.now }
 {
@@ -19,7 +19,7 @@ fn starts_with_host(word: &str) -> bool
     }
 }
 
-/// Whether one of the words after the program starts with the host's name, before which none ends the options.
+/// Reports whether an argument of the program starts with the host's name, and no earlier one ends the options.
 fn have_host(words: &Words) -> bool
     ensures { result ≡ model.have_host (drop 1 words.now) }
 {
@@ -35,7 +35,7 @@ fn have_host(words: &Words) -> bool
     false
 }
 
-/// Returns the note on a step that gives its program the host's name.
+/// Returns the warning about a step that passes its program the host's name.
 pub(crate) fn dash_note<'a>(
     crowd: &WaitingHosts<'a, '_>,
     at: StepPath,

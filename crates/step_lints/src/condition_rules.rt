@@ -1,4 +1,4 @@
-//! The notes on conditions that ask for what doesn't exist, on those that come out the same whatever happens, and on those by which a step runs only after a change.
+//! The warnings about conditions: that a group or host doesn't exist, that a test is constant, or that a step runs only after a change.
 ghost use Rattle.std.specs.Prelude.{◌≡◌, ◌++◌, [], IfOk, OnOk, option_map};
 ghost use Rattle.lint_rules.specs.Notes.{seen};
 ghost use Rattle.step_lints.specs.Doubts as model;
@@ -13,18 +13,18 @@ use lint_rules::{Note, Notes, StepPath};
 use play_model::Step;
 use std::alloc::{AllocError, Global};
 
-/// Why a condition may not be meant.
+/// Why a condition is probably a mistake.
 #[derive(Clone, Copy, Debug)]
 pub(crate) enum ConditionRule {
-    /// It asks for a group that doesn't exist.
+    /// It tests for a group that doesn't exist.
     NamesNoGroup,
     /// It compares the host's name with one that no host has.
     NamesNoHost,
     /// A string has a placeholder, which nothing fills.
     HasHole,
-    /// It comes out the same whatever happens.
+    /// It is the same whatever happens.
     IsConstant,
-    /// It asks whether a step changed something, which a second attempt doesn't do again.
+    /// It tests whether a step changed something, which a second attempt doesn't do again.
     AsksChanged,
 }
 
@@ -45,7 +45,7 @@ fn doubted_in<'c>(
     }
 }
 
-/// Returns the first name, or string, of which the tests make one doubt so; before their step come these tasks.
+/// Returns the first name or string of the tests that this rule warns about. `tasks` are the tasks before their step.
 fn first_doubted<'c>(
     doubt: ConditionRule,
     fleet: &Fleet,
@@ -86,7 +86,7 @@ fn noted<'c>(doubt: ConditionRule, at: StepPath, key: &'static str, name: &'c st
     }
 }
 
-/// Returns the note on the condition under this key, which is made of these tests.
+/// Returns this rule's warning about the condition under this key, which consists of these tests.
 fn doubt_note<'c>(
     doubt: ConditionRule,
     fleet: &Fleet,
@@ -101,7 +101,7 @@ fn doubt_note<'c>(
     Some(noted(doubt, at, key, name))
 }
 
-/// Adds the notes on a condition under its key.
+/// Adds the warnings about a condition under its key.
 fn warn_condition<'a>(
     alloc: Global,
     notes: &mut Notes<'a>,
@@ -122,7 +122,7 @@ fn warn_condition<'a>(
     Ok(())
 }
 
-/// Adds the notes on a step's conditions, in sequence; before it come these tasks. Fails only if an allocation fails.
+/// Adds the warnings about a step's conditions, in order. `tasks` are the tasks before it. Fails only if an allocation fails.
 pub(crate) fn warn_conditions<'a>(
     alloc: Global,
     notes: &mut Notes<'a>,
@@ -153,7 +153,7 @@ pub(crate) fn warn_conditions<'a>(
     Ok(())
 }
 
-/// Returns the note on a step that runs only after a change. Fails only if an allocation fails.
+/// Returns the warning about a step that runs only after a change. Fails only if an allocation fails.
 pub(crate) fn changed_note<'a>(
     alloc: Global,
     fleet: &Fleet,

@@ -1,4 +1,4 @@
-//! What the tests of a condition ask.
+//! What the tests of a condition examine.
 ghost use Rattle.std.specs.Prelude.{◌≡◌, IfOk};
 ghost use Rattle.std.specs.List.{list_any};
 ghost use Rattle.cond.specs.Trees.{written, written_operand};
@@ -13,11 +13,11 @@ use std::alloc::{AllocError, Global};
 /// A question about a test.
 #[derive(Clone, Copy, Debug)]
 pub(crate) enum TestPredicate {
-    /// Does it read anything, or ask for a group?
+    /// Does it read anything, or test for a group?
     AsksHost,
-    /// Does it ask for a group, or compare what it reads?
+    /// Does it test for a group, or compare what it reads?
     Matches,
-    /// Does it ask only whether a value is true, or defined?
+    /// Does it test only whether a value is true, or defined?
     Switches,
 }
 
@@ -88,7 +88,8 @@ fn has_test(question: TestPredicate, tests: &[SpannedTest<'_>]) -> bool
     false
 }
 
-/// Whether a test of it asks for a group or compares what it reads, and none asks only whether a value is true, or defined. Fails only if an allocation fails.
+/// Reports whether one of its tests tests for a group or compares what it reads. None of them may test only whether a value is true, or
+/// defined. Fails only if an allocation fails.
 pub(crate) fn is_matched(alloc: Global, when: &Option<Cond>) -> Result<bool, AllocError>
     ensures { IfOk result (λ matched. matched ≡ model.is_matched when.now) }
 {
@@ -97,7 +98,7 @@ pub(crate) fn is_matched(alloc: Global, when: &Option<Cond>) -> Result<bool, All
     Ok(has_test(TestPredicate::Matches, tests) && !has_test(TestPredicate::Switches, tests))
 }
 
-/// Whether a test of it asks anything about the host. Fails only if an allocation fails.
+/// Reports whether one of its tests depends on the host. Fails only if an allocation fails.
 pub(crate) fn asks_host(alloc: Global, when: &Option<Cond>) -> Result<bool, AllocError>
     ensures { IfOk result (λ asked. asked ≡ model.asks_host when.now) }
 {
@@ -124,7 +125,7 @@ fn has_false(parts: &[Part]) -> bool
     parts.iter().any(|part| is_false(*part))
 }
 
-/// Whether the condition has a part that is `false`, though all have to hold.
+/// Reports whether one of the condition's parts, all of which have to hold, is `false`.
 pub(crate) fn never_holds(condition: &Option<Cond>) -> bool
     ensures { result ≡ model.never_holds condition.now }
 {

@@ -1,4 +1,4 @@
-//! Tests of a field that come out the same whatever happens.
+//! Tests of a field that are the same whatever happens.
 ghost use Rattle.std.specs.Prelude.{◌≡◌, option_map};
 ghost use Rattle.std.specs.List.{list_all};
 ghost use Rattle.cond.specs.Trees.{written_operand};
@@ -13,7 +13,7 @@ use cond::span::word_in;
 use play_model::Step;
 use text_syntax::Field;
 
-/// Whether the field, which isn't `rc` beside a number, may have this value.
+/// Reports whether the field can have this value. An `rc` compared with a number is handled before.
 fn fits(text: &[u8], field: Field, other: Operand) -> bool
     ensures { result ≡ model.fits field (written_operand text.now other) }
 {
@@ -43,7 +43,7 @@ fn are_trusted(tasks: &[Step], name: &str) -> bool
     tasks.iter().all(|task| is_trusted(name, task))
 }
 
-/// Whether only tasks register the name that end a host on which they fail.
+/// Reports whether tasks register the name, and all of these end a host on which they fail.
 fn is_sound(tasks: &[Step], name: &str) -> bool
     ensures { result ≡ model.is_sound tasks.now name.now }
 {
@@ -60,7 +60,7 @@ fn if_sound<'c>(tasks: &[Step], asked: bool, name: &'c str) -> Option<&'c str>
     }
 }
 
-/// Returns the result whose field the test compares with the other operand.
+/// Returns the result whose field the test compares with the other operand, if that comparison is constant.
 fn constant_beside<'c>(
     tasks: &[Step],
     text: &'c [u8],
@@ -81,7 +81,7 @@ fn constant_beside<'c>(
     }
 }
 
-/// Returns the result of whose field the test asks so; its step comes after these tasks.
+/// Returns the result whose field the test examines, if the test is constant. `tasks` are the tasks before its step.
 pub(crate) fn constant_in<'c>(tasks: &[Step], one: SpannedTest<'c>) -> Option<&'c str>
     ensures { option_map (λ name. name.now) result ≡ model.constant_in tasks.now (said one.entry) }
 {

@@ -1,4 +1,4 @@
-//! From an inventory to the names to which it gives a value, on whatever host.
+//! The names that an inventory defines on any host.
 ghost use Rattle.std.specs.Prelude.{◌≡◌, ◌||◌, IfOk, OnOk};
 ghost use Rattle.std.specs.List.{list_any};
 ghost use Rattle.group_tree.specs.Names.{Name};

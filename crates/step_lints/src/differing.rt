@@ -17,7 +17,7 @@ use play_model::{Step, Words};
 use std::alloc::{AllocError, Global};
 use text_syntax::{Part, Ref, first_word_part};
 
-/// The names under which steps of a play register results, and those of results that may differ between the waiting hosts.
+/// The names under which steps of a play register results, and those of results that can differ between the waiting hosts.
 #[derive(Drop)]
 pub struct Results<'a> {
     pub(crate) own: Registered<'a>,
@@ -36,7 +36,7 @@ fn list_own<'a>(alloc: Global, steps: &'a [Step]) -> Result<Registered<'a>, Allo
 }
 
 impl<'a> Results<'a> {
-    /// Adds the result of the step, if it registers one and its words differ.
+    /// Adds the result of the step, if it registers one and its command differs.
     fn add(&mut self, lacks: &MissingNames<'_, '_>, step: &'a Step) -> Result<(), AllocError>
         ensures own { self.new.own ≡ self.old.own }
         ensures varied { OnOk result ((name : Name) → has_name self.new.varied name
@@ -48,7 +48,7 @@ impl<'a> Results<'a> {
         Ok(())
     }
 
-    /// Adds those of the steps, of each after those before it.
+    /// Adds those of the steps, in order.
     fn add_all(&mut self, lacks: &MissingNames<'_, '_>, steps: &'a [Step]) -> Result<(), AllocError>
         ensures own { self.new.own ≡ self.old.own }
         ensures varied { OnOk result ((name : Name) → has_name self.new.varied name
@@ -60,7 +60,7 @@ impl<'a> Results<'a> {
         Ok(())
     }
 
-    /// Looks at each step, after those before it. Fails only if an allocation fails.
+    /// Examines each step, in order. Fails only if an allocation fails.
     pub fn of(
         alloc: Global,
         lacks: &MissingNames<'_, '_>,
@@ -77,7 +77,7 @@ impl<'a> Results<'a> {
     }
 }
 
-/// Whether the name has a result that may differ, or is none and not all waiting hosts have the same value of it.
+/// Reports whether the name is a result that can differ, or a variable that differs between the waiting hosts.
 fn name_differs(lacks: &MissingNames<'_, '_>, results: &Results<'_>, name: &str) -> bool
     ensures { result ≡ differs_in lacks.now results.now name.now }
 {
@@ -111,7 +111,7 @@ fn word_differs(lacks: &MissingNames<'_, '_>, results: &Results<'_>, word: &str)
     false
 }
 
-/// Whether one of the words differs between the hosts that wait.
+/// Reports whether one of the words differs between the waiting hosts.
 fn words_differ(lacks: &MissingNames<'_, '_>, results: &Results<'_>, words: &Words) -> bool
     ensures { result ≡ model.words_differ (differs_in lacks.now results.now) (are_several lacks.now.waiting.now) words.now }
 {

@@ -1,4 +1,4 @@
-//! The names of which a condition asks whether they are defined.
+//! The names that a condition tests with `is defined`.
 ghost use Rattle.std.specs.Prelude.{◌≡◌, ◌||◌, IfOk, OnOk};
 ghost use Rattle.cond.specs.Mentions.{names_in_ref};
 ghost use Rattle.cond.specs.Trees.{written_ref};
@@ -40,7 +40,7 @@ fn add_tests<'c>(tests: &[SpannedTest<'c>], found: &mut NameSet<'c>) -> Result<(
     Ok(())
 }
 
-/// Returns each once. Fails only if an allocation fails.
+/// Returns each name once. Fails only if an allocation fails.
 pub(crate) fn list_guarded<'c>(
     alloc: Global,
     condition: &'c Option<Cond>,

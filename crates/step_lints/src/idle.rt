@@ -1,4 +1,4 @@
-//! The note on a step that no waiting host runs.
+//! The warning about a step that no waiting host runs.
 ghost use Rattle.std.specs.Prelude.{◌≡◌, IfOk, option_map};
 ghost use Rattle.step_lints.specs.Hosts.{skip_all};
 ghost use Rattle.step_lints.specs.Inside.{crowd_of, foreseen_from};
@@ -14,7 +14,7 @@ use lint_rules::{Note, StepPath};
 use play_model::Step;
 use std::alloc::{AllocError, Global};
 
-/// Whether it is known that the host of this number skips the step there.
+/// Reports whether the host of this number is known to skip the step there.
 pub(crate) fn skips(
     alloc: Global,
     stand: StepContext<'_, '_>,
@@ -29,7 +29,7 @@ pub(crate) fn skips(
     }
 }
 
-/// Whether it is known that each waiting host does; not if none waits.
+/// Reports whether each waiting host is known to skip it; false if none waits.
 fn all_skip(
     alloc: Global,
     crowd: &WaitingHosts<'_, '_>,
@@ -60,7 +60,7 @@ fn is_idle(
     }
 }
 
-/// Returns the note on a step that no host runs. Fails only if an allocation fails.
+/// Returns the warning about a step that no host runs. Fails only if an allocation fails.
 pub(crate) fn idle_step_note(
     alloc: Global,
     crowd: &WaitingHosts<'_, '_>,

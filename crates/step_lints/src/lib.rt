@@ -1,4 +1,4 @@
-//! The notes on the steps of a play.
+//! The warnings about the steps of a play.
 #![tactic(auto)]
 
 mod arguments;

@@ -1,4 +1,4 @@
-//! What a test asks for that doesn't exist, or that an attempt before may have changed.
+//! Tests for what doesn't exist, or for what an earlier attempt may have changed.
 ghost use Rattle.std.specs.Prelude.{◌≡◌, option_map};
 ghost use Rattle.cond.specs.Trees.{written_operand};
 ghost use Rattle.group_tree.specs.Names.{is_among};
@@ -12,7 +12,7 @@ use cond::span::word_in;
 use domains::Fleet;
 use inventory_lints::{is_group, is_literal};
 
-/// Returns the group for which the test asks, if there is none of its name.
+/// Returns the group that the test names, if it doesn't exist.
 pub(crate) fn unknown_group<'c>(fleet: &Fleet, one: SpannedTest<'c>) -> Option<&'c str>
     ensures { option_map (λ group. group.now) result ≡ model.unknown_group_in fleet.now.groups (said one.entry).test }
 {
@@ -86,7 +86,7 @@ fn holed(text: &[u8], operand: Operand) -> Option<&str>
     if is_literal(word) { None } else { Some(word) }
 }
 
-/// Returns the first such string that the test compares, or that is alone.
+/// Returns the first such string that the test compares, or that is the entire test.
 pub(crate) fn holed_in<'c>(one: SpannedTest<'c>) -> Option<&'c str>
     ensures { option_map (λ word. word.now) result ≡ model.holed_in (said one.entry).test }
 {

@@ -1,4 +1,4 @@
-//! What the waiting hosts have under names: each name is looked up on them once a play.
+//! The waiting hosts' values of names: each name is resolved on them once per play.
 ghost use Rattle.std.specs.Prelude.{◌≡◌, OnOk, count_by, option_map};
 ghost use Rattle.std.specs.List.{find, list_all};
 ghost use Rattle.cond.specs.Meaning as meaning;
@@ -18,8 +18,8 @@ use indexmap::IndexMap;
 use play_model::Step;
 use std::alloc::{AllocError, Global};
 
-/// The variables of all hosts, the names that any of them has, the waiting hosts by their numbers, rising, whether a step of their play calls `ssh`, and what was looked up of the hosts. What none has
-/// isn't looked up.
+/// The variables of all hosts, the names that any of them has, and the numbers of the waiting hosts, ascending. Also whether a step of
+/// their play calls `ssh`, and what has been resolved so far. A name that no host has is not resolved.
 #[derive(Drop)]
 pub struct MissingNames<'a, 's> {
     pub vars: &'s [Vars],
@@ -35,7 +35,7 @@ impl<'a, 's> MissingNames<'a, 's> {
     ghost use Rattle.std.specs.Prelude.{◌≡◌, IfOk};
     ghost use Rattle.step_lints.specs.Programs.{goes_elsewhere};
 
-    /// Looks up whatever the steps read. Fails only if an allocation fails.
+    /// Resolves every name that the steps read. Fails only if an allocation fails.
     pub fn of(
         alloc: Global,
         vars: &'s [Vars],
@@ -62,7 +62,7 @@ impl<'a, 's> MissingNames<'a, 's> {
         })
     }
 
-    /// Returns what the waiting hosts have under the name.
+    /// Returns the facts about the name on the waiting hosts.
     pub(crate) fn get(&self, name: &str) -> Facts
         ensures { result ≡ facts_in self.now.vars.now self.now.waiting.now name.now }
     {
@@ -83,7 +83,7 @@ impl<'a, 's> MissingNames<'a, 's> {
     }
 }
 
-/// Returns what is so of a name that no host has.
+/// Returns the facts about a name that no host has.
 fn facts_of_none(waiting: &[usize]) -> Facts
     ensures { result ≡ spec.facts_of_none waiting.now }
 {
@@ -108,7 +108,7 @@ fn known_facts(known: &IndexMap<&str, Facts>, name: &str) -> Option<Facts>
     known.get(name).copied()
 }
 
-/// Returns what the host of this number has under the name.
+/// Returns the value of the name on the host of this number.
 fn value_on<'v>(vars: &'v [Vars], name: &str, host: usize) -> Option<Value<'v>>
     ensures { option_map had result ≡ value_in vars.now name.now host }
 {
@@ -215,7 +215,7 @@ fn keep<'a>(
     Ok(())
 }
 
-/// Keeps the names of which nothing is kept and that any host has.
+/// Stores the facts about the names that any host has, unless they are already stored.
 fn learn_all<'a>(
     vars: &[Vars],
     waiting: &[usize],
@@ -234,7 +234,7 @@ fn learn_all<'a>(
     Ok(())
 }
 
-/// Keeps whatever the step reads.
+/// Stores the facts about every name that the step reads.
 fn learn_step<'a>(
     alloc: Global,
     vars: &[Vars],

@@ -1,13 +1,13 @@
-//! What the waiting hosts have under a name.
+//! Facts about a name on the waiting hosts.
 
-/// How many of the waiting hosts lack a name, and the first of these by its number.
+/// How many of the waiting hosts lack a name, and the number of the first of these.
 #[derive(Clone, Copy, Debug)]
 pub(crate) struct MissingCount {
     pub(crate) hosts: usize,
     pub(crate) first: usize,
 }
 
-/// The hosts that lack a name, if any does, and whether not all hosts have the same value of it.
+/// The hosts that lack a name, if any does, and whether its value differs between the hosts.
 #[derive(Clone, Copy, Debug)]
 pub(crate) struct Facts {
     pub(crate) lack: Option<MissingCount>,

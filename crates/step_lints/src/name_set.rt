@@ -1,4 +1,4 @@
-//! Names of which each counts once, as those that a step may read undefined on a host.
+//! Sets of names, such as those that a step may read undefined on a host.
 ghost use Rattle.std.specs.Prelude.{◌≡◌, ◌||◌, true, false, IfOk, OnOk};
 ghost use Rattle.group_tree.specs.Names.{Name, is_among, same_name};
 ghost use Rattle.step_lints.specs.Inside.{has_missed, missed_from, names_of};
@@ -8,7 +8,7 @@ use host_vars::Vars;
 use indexmap::IndexSet;
 use std::alloc::{AllocError, Global};
 
-/// Names, each once. They are borrowed from the inputs.
+/// A set of names, borrowed from the inputs.
 #[derive(Drop)]
 pub struct NameSet<'a> {
     pub names: IndexSet<&'a str>,

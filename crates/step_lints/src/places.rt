@@ -1,4 +1,4 @@
-//! The notes on commands that run on the local machine, and on those that run for several hosts on one.
+//! The warnings about commands that run on the local machine, or for several hosts on one machine.
 ghost use Rattle.std.specs.Prelude.{◌≡◌, IfOk, count_by, not, option_map};
 ghost use Rattle.step_lints.specs.Inside.{crowd_of, foreseen_beside, foreseen_from};
 ghost use Rattle.lint_rules.specs.Notes.{seen};
@@ -31,7 +31,7 @@ fn count_running(
     }
 }
 
-/// Counts those on which it isn't known that a `when` can't hold.
+/// Counts the waiting hosts that aren't known to skip a step with a `when`.
 fn count_may_run(
     alloc: Global,
     crowd: &WaitingHosts<'_, '_>,
@@ -49,7 +49,7 @@ fn count_may_run(
     Ok(count)
 }
 
-/// Whether the program isn't `ssh`, is called with the same words for each host, and belongs on the hosts.
+/// Reports whether the program isn't `ssh`, has the same command for each host, and belongs on the hosts.
 fn is_misplaced(crowd: &WaitingHosts<'_, '_>, step: &Step, program: &str) -> bool
     ensures { result ≡ model.is_misplaced (crowd_of crowd.now) step.now program.now }
 {
@@ -59,7 +59,7 @@ fn is_misplaced(crowd: &WaitingHosts<'_, '_>, step: &Step, program: &str) -> boo
     changes_machine(program) || (crowd.lacks.elsewhere && !serves_all(program))
 }
 
-/// Returns such a program that several hosts may run.
+/// Returns such a program if several hosts may run it.
 fn misplaced<'a>(
     alloc: Global,
     crowd: &WaitingHosts<'_, '_>,
@@ -82,7 +82,7 @@ fn misplaced<'a>(
     }
 }
 
-/// Returns the note on a step that runs on the local machine. Fails only if an allocation fails.
+/// Returns the warning about a step that runs on the local machine. Fails only if an allocation fails.
 pub(crate) fn local_note<'a>(
     alloc: Global,
     crowd: &WaitingHosts<'_, '_>,
@@ -105,7 +105,7 @@ fn has_fixed_target(crowd: &WaitingHosts<'_, '_>, step: &Step) -> bool
     calls_ssh(&step.words) && !name_host(crowd, &step.words)
 }
 
-/// Returns the note on a step that goes to one machine for several hosts. Fails only if an allocation fails.
+/// Returns the warning about a step that runs on one machine for several hosts. Fails only if an allocation fails.
 pub(crate) fn target_note(
     alloc: Global,
     crowd: &WaitingHosts<'_, '_>,
@@ -127,7 +127,8 @@ pub(crate) fn target_note(
     }
 }
 
-/// Whether the step there does the same for each host, neither its words nor its `when` depend on the host, and it has no note of its own.
+/// Reports whether the step there does the same for each host and has no warning of its own. Neither its command nor its `when` depends on
+/// the host.
 fn is_same_for_all(
     alloc: Global,
     crowd: &WaitingHosts<'_, '_>,
@@ -167,7 +168,8 @@ fn are_same_for_all(
     Ok(true)
 }
 
-/// Returns the note on a play of this number, counted from 1, that does all its work on the local machine. Fails only if an allocation fails.
+/// Returns the warning about a play that does all its work on the local machine. `number` is the play's, counted from 1. Fails only if an
+/// allocation fails.
 pub fn local_play_note(
     alloc: Global,
     crowd: &WaitingHosts<'_, '_>,

@@ -7,7 +7,7 @@ ghost use Rattle.step_lints.specs.declared.programs.Front.TheVariants as front;
 use inventory_lints::{byte_at, bytes_behind};
 use play_model::{Step, Words};
 
-/// A program that runs the one which follows its own words.
+/// A program that runs another one, which follows its own arguments.
 #[derive(Clone, Copy, Debug)]
 pub(crate) enum Wrapper {
     Sudo,
@@ -16,12 +16,12 @@ pub(crate) enum Wrapper {
     Nice,
 }
 
-/// What a word may be before the program is found.
+/// What a word can be before the program is found.
 #[derive(Clone, Copy, Debug)]
 pub(crate) enum Front {
     /// The program, or a wrapper.
     Any,
-    /// The same, or an own word of this wrapper.
+    /// Likewise, or an argument of this wrapper.
     Own(Wrapper),
     /// The value of an option of this wrapper.
     Value(Wrapper),
@@ -76,7 +76,7 @@ fn wrapper_named(word: &str) -> Option<Wrapper>
     }
 }
 
-/// Whether the word is an option, the time of `timeout`, or a variable for `env`.
+/// Reports whether the word is an option, the duration of `timeout`, or a variable of `env`.
 fn takes(wrapper: Wrapper, word: &str) -> bool
     ensures { result ≡ model.takes wrapper word.now }
 {
@@ -87,7 +87,7 @@ fn takes(wrapper: Wrapper, word: &str) -> bool
     }
 }
 
-/// Returns what may follow such a word.
+/// Returns what can follow such a word.
 fn taken(wrapper: Wrapper, word: &str) -> Front
     ensures { result ≡ model.taken wrapper word.now }
 {
@@ -99,7 +99,7 @@ fn taken(wrapper: Wrapper, word: &str) -> Front
     }
 }
 
-/// Whether the word belongs to the wrapper before it.
+/// Reports whether the word belongs to the wrapper before it.
 fn is_own(front: Front, word: &str) -> bool
     ensures { result ≡ model.is_own front word.now }
 {
@@ -110,7 +110,7 @@ fn is_own(front: Front, word: &str) -> bool
     }
 }
 
-/// Returns what may follow such a word.
+/// Returns what can follow such a word.
 fn after(front: Front, word: &str) -> Front
     ensures { result ≡ model.after front word.now }
 {
@@ -121,7 +121,7 @@ fn after(front: Front, word: &str) -> Front
     }
 }
 
-/// Returns the first word that is no wrapper and doesn't belong to one; the last wrapper if all do.
+/// Returns the first word that is not a wrapper and doesn't belong to one, or the last wrapper if there is none.
 fn find_program(words: &Words) -> &str
     requires { 0 < length words.now }
     ensures { result.now ≡ model.program_from front.Any (list_at words.now 0) words.now }
@@ -142,7 +142,7 @@ fn find_program(words: &Words) -> &str
     wrapper
 }
 
-/// Returns the program that the words run in the end: behind `sudo`, `timeout`, `env` and `nice`.
+/// Returns the program that the command finally runs: after `sudo`, `timeout`, `env` and `nice`.
 #[tactic(auto, using(crate::proofs::ProgramLemmas::program_first))]
 pub(crate) fn program(words: &Words) -> Option<&str>
     ensures { option_map (λ word. word.now) result ≡ model.program words.now }
@@ -163,14 +163,14 @@ pub(crate) fn calls_ssh(words: &Words) -> bool
     }
 }
 
-/// Whether one of the steps does.
+/// Reports whether one of the steps calls `ssh`.
 pub(crate) fn goes_elsewhere(steps: &[Step]) -> bool
     ensures { result ≡ model.goes_elsewhere steps.now }
 {
     steps.iter().any(|step| calls_ssh(&step.words))
 }
 
-/// Whether the program changes the machine on which it runs.
+/// Reports whether the program changes the machine on which it runs.
 pub(crate) fn changes_machine(word: &str) -> bool
     ensures { result ≡ model.changes_machine word.now }
 {
@@ -186,7 +186,7 @@ pub(crate) fn changes_machine(word: &str) -> bool
         || base == "shutdown".as_bytes()
 }
 
-/// Whether the program of this name, without a path, talks to another machine.
+/// Reports whether the program of this name, given without a path, communicates with another machine.
 fn asks_elsewhere(base: &[u8]) -> bool
     ensures { result ≡ model.asks_elsewhere base.now }
 {
@@ -205,7 +205,7 @@ fn asks_elsewhere(base: &[u8]) -> bool
         || base == "redis-cli".as_bytes()
 }
 
-/// Whether it only waits, or only tells.
+/// Reports whether it only waits, tests or prints.
 fn changes_nothing(base: &[u8]) -> bool
     ensures { result ≡ model.changes_nothing base.now }
 {
@@ -218,7 +218,7 @@ fn changes_nothing(base: &[u8]) -> bool
         || base == "date".as_bytes()
 }
 
-/// Whether one call of the program may serve all hosts.
+/// Reports whether one call of the program can serve all hosts.
 pub(crate) fn serves_all(word: &str) -> bool
     ensures { result ≡ model.serves_all word.now }
 {

@@ -1,4 +1,4 @@
-//! The notes on what stands in one word and should be several, and on what is several at the other end of `ssh`.
+//! The warnings about one argument that should be several, and about one that `ssh` splits on the remote host.
 ghost use Rattle.std.specs.Prelude.{◌≡◌, ◌+◌, ◌<◌, drop, length, option_map};
 ghost use Rattle.fleet_index.specs.NumberLists.{list_at};
 ghost use Rattle.lint_rules.specs.Notes.{seen};
@@ -10,21 +10,21 @@ use lint_rules::{Note, StepPath};
 use play_model::{Step, Words};
 use text_syntax::is_blank;
 
-/// Whether a blank is among the bytes.
+/// Reports whether the bytes contain whitespace.
 pub(crate) fn has_blank(bytes: &[u8]) -> bool
     ensures { result ≡ model.has_blank bytes.now }
 {
     bytes.iter().any(|byte| is_blank(*byte))
 }
 
-/// How many bytes stand before the first `{`.
+/// Returns how many bytes precede the first `{`.
 fn count_plain(bytes: &[u8]) -> usize
     ensures { result ≡ model.plain_bytes bytes.now }
 {
     bytes.iter().take_while(|byte| **byte != b'{').count()
 }
 
-/// Whether a blank stands before what may be a hole.
+/// Reports whether whitespace precedes a possible placeholder.
 fn is_several(word: &str) -> bool
     ensures { result ≡ model.is_several word.now }
 {
@@ -32,14 +32,14 @@ fn is_several(word: &str) -> bool
     has_blank(first_bytes(bytes, count_plain(bytes)))
 }
 
-/// Whether the word is no name of a program: it is of several words, or sets a variable as a shell would.
+/// Reports whether the word is not the name of a program: it consists of several words, or sets a variable as a shell would.
 fn is_no_program(word: &str) -> bool
     ensures { result ≡ model.is_no_program word.now }
 {
     is_several(word) || has_equals(word)
 }
 
-/// What is noted of the name of a step's program.
+/// Returns the warning about the name of a step's program, if there is one.
 #[tactic(auto, using(crate::proofs::ProgramLemmas::blank_first))]
 pub(crate) fn blank_note<'a>(at: StepPath, step: &'a Step) -> Option<Note<'a>>
     ensures { option_map seen result ≡ model.blank_note at step.now }
@@ -55,7 +55,7 @@ pub(crate) fn blank_note<'a>(at: StepPath, step: &'a Step) -> Option<Note<'a>>
     }
 }
 
-/// Whether a script stands behind the word, for a program that reads one.
+/// Reports whether the word is an option that a script follows, for a program that reads one.
 #[tactic(auto, unfolding(crate::specs::Quoting::is_script_option))]
 pub(crate) fn is_script_option(word: &str) -> bool
     ensures { result ≡ model.is_script_option word.now }
@@ -63,7 +63,7 @@ pub(crate) fn is_script_option(word: &str) -> bool
     matches!(word, "-c" | "-lc" | "-ec" | "-xc")
 }
 
-/// Whether the text is of several words, and no quote is in front.
+/// Reports whether the string consists of several words and doesn't start with a quote.
 fn is_torn(script: &str) -> bool
     ensures { result ≡ model.is_torn script.now }
 {
@@ -71,7 +71,7 @@ fn is_torn(script: &str) -> bool
     first != b'\'' && first != b'"' && is_several(script)
 }
 
-/// The word behind the one at this place, where that is an option for a script, and this one is torn.
+/// Returns the word after the one at this index, if this one is an option for a script and `ssh` splits that.
 #[tactic(auto, using(crate::proofs::QuotingLemmas::torn_next))]
 fn torn_behind(words: &Words, place: usize) -> Option<&str>
     requires { place < length words.now }
@@ -86,7 +86,7 @@ fn torn_behind(words: &Words, place: usize) -> Option<&str>
     }
 }
 
-/// The first of them.
+/// Returns the first of them.
 #[tactic(auto, using(crate::proofs::QuotingLemmas::first_here))]
 fn find_torn(words: &Words) -> Option<&str>
     ensures { option_map (λ word. word.now) result ≡ model.first_torn words.now }
@@ -99,7 +99,7 @@ fn find_torn(words: &Words) -> Option<&str>
     None
 }
 
-/// What is noted of a script that a step gives `ssh`.
+/// Returns the warning about a script that a step passes to `ssh`, if there is one.
 pub(crate) fn quotes_note<'a>(at: StepPath, step: &'a Step) -> Option<Note<'a>>
     ensures { option_map seen result ≡ model.quotes_note at step.now }
 {

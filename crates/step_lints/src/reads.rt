@@ -79,7 +79,7 @@ fn add_in_condition<'s>(
     add_in_tests(tests.as_slice(), names)
 }
 
-/// Returns the name in the placeholder that the part is, if it is one with a name.
+/// Returns the name in the part, if it is a placeholder with a name.
 fn name_in(part: Part<'_>) -> Option<&str>
     ensures { MatchOption result (names_in_part (seen.said part.entry) ≡ []) (λ name. names_in_part (seen.said part.entry) ≡ name.now ∷ []) }
 {
@@ -111,7 +111,7 @@ fn add_in_words<'s>(words: &'s Words, names: &mut Vec<&'s str>) -> Result<(), Al
     Ok(())
 }
 
-/// Lists the names that the step reads before its program is run. Fails only if an allocation fails.
+/// Returns the names that the step reads before its program is run. Fails only if an allocation fails.
 pub(crate) fn list_before<'s>(alloc: Global, step: &'s Step) -> Result<Vec<&'s str>, AllocError>
     ensures { IfOk result (λ names. names_of names.items ≡ model.read_before step.now) }
 {
@@ -121,7 +121,7 @@ pub(crate) fn list_before<'s>(alloc: Global, step: &'s Step) -> Result<Vec<&'s s
     Ok(names)
 }
 
-/// Lists the names by which the step's end is judged. Fails only if an allocation fails.
+/// Returns the names that the judgment of the step's end reads. Fails only if an allocation fails.
 pub(crate) fn list_behind<'s>(alloc: Global, step: &'s Step) -> Result<Vec<&'s str>, AllocError>
     ensures { IfOk result (λ names. names_of names.items ≡ model.read_behind step.now) }
 {

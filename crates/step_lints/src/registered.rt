@@ -1,4 +1,4 @@
-//! The names under which steps registered results.
+//! The names under which steps register results.
 ghost use Rattle.std.specs.Prelude.{◌≡◌, ◌||◌, true, false, OnOk};
 ghost use Rattle.group_tree.specs.Names.{Name};
 ghost use Rattle.result_dependencies.specs.Needs.{tasks_before};
@@ -11,13 +11,13 @@ use cond::span::split;
 use play_model::{Play, Step};
 use std::alloc::{AllocError, Global};
 
-/// Names, each once. They are borrowed from the plays.
+/// A set of names, borrowed from the plays.
 #[derive(Drop)]
 pub struct Registered<'p> {
     pub(crate) names: NameSet<'p>,
 }
 
-/// Whether the step registers its result under the name.
+/// Reports whether the step registers its result under the name.
 pub(crate) fn registers(name: &str, step: &Step) -> bool
     ensures { result ≡ spec.registers name.now step.now }
 {
@@ -27,21 +27,22 @@ pub(crate) fn registers(name: &str, step: &Step) -> bool
     }
 }
 
-/// Whether one of the steps does.
+/// Reports whether one of the steps does.
 pub(crate) fn is_registered_by(name: &str, steps: &[Step]) -> bool
     ensures { result ≡ spec.is_registered_by steps.now name.now }
 {
     steps.iter().any(|step| registers(name, step))
 }
 
-/// Whether a task before this place of the play registers its result under the name: it is sure to be defined, since a step that is skipped registers one too.
+/// Reports whether a task before this index of the play registers its result under the name. Then the name is defined, since a skipped step
+/// registers a result too.
 pub(crate) fn is_sure(play: &Play, place: usize, name: &str) -> bool
     ensures { result ≡ spec.is_registered_by (tasks_before play.now place) name.now }
 {
     is_registered_by(name, tasks_above(play, place))
 }
 
-/// Returns the tasks before this place of the play.
+/// Returns the tasks before this index of the play.
 pub(crate) fn tasks_above(play: &Play, place: usize) -> &[Step]
     ensures { result.now ≡ tasks_before play.now place }
 {
@@ -63,7 +64,7 @@ impl<'p> Registered<'p> {
         self.names.is_empty()
     }
 
-    /// Adds the name under which the step registers its result, if it registers it.
+    /// Adds the name under which the step registers its result, if it registers one.
     pub fn add(&mut self, step: &'p Step) -> Result<(), AllocError>
         ensures { OnOk result ((name : Name) → has_name self.new name ≡ (has_name self.old name || spec.registers name step.now)) }
     {
@@ -77,7 +78,7 @@ impl<'p> Registered<'p> {
 impl Names for Registered<'_> {
     ghost holds = { has_name };
 
-    // Most plays register nothing: then nothing is looked up.
+    // Most plays register nothing; this avoids the lookup.
     fn has(&self, name: &str) -> bool {
         !self.names.is_empty() && self.names.has(name)
     }

@@ -1,4 +1,4 @@
-//! The results that a step reads and that may not exist, though a step before registers them.
+//! The results that a step reads and that may not exist, though an earlier step registers them.
 ghost use Rattle.std.specs.Prelude.{◌≡◌, ◌&&◌, ◌||◌, not, IfOk, OnOk};
 ghost use Rattle.group_tree.specs.Names.{Name, is_among};
 ghost use Rattle.result_dependencies.specs.Needs.{tasks_before};
@@ -25,7 +25,7 @@ fn add_in_part<'s>(part: Part<'s>, found: &mut NameSet<'s>) -> Result<(), AllocE
     }
 }
 
-/// Adds the names that are in placeholders of the word without a field.
+/// Adds the names that placeholders of the word contain without a field.
 fn add_in_word<'s>(word: &'s str, found: &mut NameSet<'s>) -> Result<(), AllocError>
     ensures { OnOk result ((name : Name) → has_missed found.new name ≡ (has_missed found.old name || is_among name (whole_in_word word.now))) }
 {
@@ -37,7 +37,7 @@ fn add_in_word<'s>(word: &'s str, found: &mut NameSet<'s>) -> Result<(), AllocEr
     Ok(())
 }
 
-/// Returns the names that are in placeholders of the words without a field.
+/// Returns the names that placeholders of the words contain without a field.
 fn list_whole(alloc: Global, words: &Words) -> Result<NameSet<'_>, AllocError>
     ensures { IfOk result (λ found. (name : Name) → has_missed found name ≡ is_among name (whole_in_words words.now)) }
 {
@@ -48,7 +48,7 @@ fn list_whole(alloc: Global, words: &Words) -> Result<NameSet<'_>, AllocError>
     Ok(found)
 }
 
-/// Names that a step before registers, of whose results one may not exist, or is read where it has no text.
+/// Names that an earlier step registers, whose result may not exist, or is read as a string, which it is not.
 #[derive(Clone, Copy)]
 struct Unsure<'a, 's, 'w, 'p> {
     registered: &'s Registered<'a>,
@@ -68,7 +68,7 @@ impl Names for Unsure<'_, '_, '_, '_> {
     }
 }
 
-/// Lists those that the step of this play reads, each once, in the order of reading. Fails only if an allocation fails.
+/// Returns those that the step of this play reads, each once, in the order of reading. Fails only if an allocation fails.
 pub(crate) fn list_unsure<'p>(
     alloc: Global,
     asked: &UnsetNames<'_, '_>,

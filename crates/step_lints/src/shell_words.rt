@@ -1,4 +1,4 @@
-//! The note on a word that means something to a shell alone.
+//! The warning about an argument that means something only to a shell.
 ghost use Rattle.std.specs.Prelude.{◌≡◌, option_map};
 ghost use Rattle.lint_rules.specs.Notes.{seen};
 ghost use Rattle.step_lints.specs.ShellWords as model;
@@ -17,7 +17,7 @@ fn is_capital(byte: u8) -> bool
     matches!(byte, b'A'..=b'Z')
 }
 
-/// Whether `$NAME`, `${NAME` or `$(` is in front; of a word with blanks `$` and three capital letters.
+/// Reports whether the bytes start with `$NAME`, `${NAME` or `$(`, or, in a word with whitespace, with `$` and three capital letters.
 fn is_expansion(spaced: bool, bytes: &[u8]) -> bool
     ensures { result ≡ model.is_expansion spaced bytes.now }
 {
@@ -43,7 +43,8 @@ fn has_expansion(spaced: bool, bytes: &[u8]) -> bool
     false
 }
 
-/// Whether a shell would put something else in place of a part of the word. Behind an option for a script a word with blanks is one.
+/// Reports whether a shell would expand a part of the word. A word with whitespace after an option for a script is a script, and doesn't
+/// count.
 fn is_expanded(scripted: bool, word: &str) -> bool
     ensures { result ≡ model.is_expanded scripted word.now }
 {
@@ -72,7 +73,7 @@ fn is_shell_word(scripted: bool, word: &str) -> bool
     is_shell_sign(word) || is_expanded(scripted, word)
 }
 
-/// The first such word behind the program.
+/// Returns the first such argument of the program.
 fn find_shell_word(words: &Words) -> Option<&str>
     ensures { option_map (λ word. word.now) result ≡ first_shell_word words.now }
 {
@@ -85,7 +86,7 @@ fn find_shell_word(words: &Words) -> Option<&str>
     None
 }
 
-/// What is noted of a step's words behind its program, where no shell reads them.
+/// Returns the warning about a step's arguments that no shell reads, if there is one.
 pub(crate) fn shell_note<'a>(at: StepPath, step: &'a Step) -> Option<Note<'a>>
     ensures { option_map seen result ≡ model.shell_note at step.now }
 {

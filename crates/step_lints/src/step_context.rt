@@ -1,10 +1,10 @@
-//! Where a step stands among the plays of a file.
+//! The position of a step among the plays of a file.
 ghost use Rattle.std.specs.Prelude.{◌≡◌};
 
 use group_tree::HostId;
 use undefined_names::{Registry, StepLocation};
 
-/// Those plays, the number of the step's play and the step's place there, both from 0.
+/// Those plays, the number of the step's play and the step's index in it, both from 0.
 #[derive(Clone, Copy)]
 pub struct StepContext<'a, 's> {
     pub registry: &'s Registry<'a>,
@@ -13,7 +13,7 @@ pub struct StepContext<'a, 's> {
 }
 
 impl StepContext<'_, '_> {
-    /// The step there, on the host of this number.
+    /// Returns the location of the step there on the host of this number.
     pub(crate) fn spot(self, host: usize) -> StepLocation
         ensures play { result.play ≡ self.entry.number }
         ensures place { result.place ≡ self.entry.place }

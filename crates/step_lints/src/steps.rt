@@ -1,4 +1,4 @@
-//! The notes on a step.
+//! The warnings about a step.
 ghost use Rattle.std.specs.Prelude.{◌≡◌, ◌++◌, OnOk, false, flat_map, option_map};
 ghost use Rattle.fleet_index.specs.NumberLists.{has_number};
 ghost use Rattle.result_dependencies.specs.Needs.{tasks_before};
@@ -38,7 +38,7 @@ fn notifies(task: &Step, handler: usize) -> bool
     lists(task, handler) && !never_holds(&task.changed_when)
 }
 
-/// Whether a task of the play that may change something notifies the handler of this number.
+/// Reports whether a task of the play that can report a change notifies the handler of this number.
 fn is_notified(play: &Play, handler: usize) -> bool
     ensures { result ≡ model.is_notified play.now handler }
 {
@@ -56,7 +56,7 @@ fn idle_note(play: &Play, at: StepPath) -> Option<Note<'static>>
     }
 }
 
-/// Adds the notes on these names, which a step without conditions reads.
+/// Adds the warnings about these names, which a step without conditions reads.
 fn warn_names<'a>(
     notes: &mut Notes<'a>,
     crowd: &WaitingHosts<'a, '_>,
@@ -71,7 +71,7 @@ fn warn_names<'a>(
     Ok(())
 }
 
-/// Adds those on names that another step reads; steps before register them, or none does.
+/// Adds the warnings about names that a step with conditions reads, which an earlier step registers or none does.
 fn warn_missed<'a>(
     notes: &mut Notes<'a>,
     askers: &UndefinedReads<'a, '_>,
@@ -94,7 +94,7 @@ fn has_conditions(step: &Step) -> bool
     step.when.is_some() || (step.changed_when.is_some() || step.failed_when.is_some())
 }
 
-/// Adds the notes on these names, which the step reads and nothing gives a value. Each host is looked at only if it has conditions.
+/// Adds the warnings about these names, which the step reads and nothing defines. Examines each host only if the step has conditions.
 fn warn_unset<'a>(
     alloc: Global,
     notes: &mut Notes<'a>,
@@ -113,7 +113,7 @@ fn warn_unset<'a>(
     warn_missed(notes, &askers, false, at, names)
 }
 
-/// Adds the notes on names that the step reads and that no step before registers.
+/// Adds the warnings about names that the step reads and no earlier step registers.
 fn warn_asked<'a>(
     alloc: Global,
     notes: &mut Notes<'a>,
@@ -131,7 +131,7 @@ fn warn_asked<'a>(
     warn_unset(alloc, notes, asked, at, step, names.as_slice())
 }
 
-/// Adds the notes on results that the step reads and that may not exist. Each host is looked at only if it reads any.
+/// Adds the warnings about results that the step reads and that may not exist. Examines each host only if the step reads any.
 fn warn_results<'a>(
     alloc: Global,
     notes: &mut Notes<'a>,
@@ -154,7 +154,7 @@ fn warn_results<'a>(
     warn_missed(notes, &askers, true, at, names.as_slice())
 }
 
-/// Adds the notes on its words and its program.
+/// Adds the warnings about its arguments and its program.
 fn warn_words<'a>(
     alloc: Global,
     notes: &mut Notes<'a>,
@@ -174,7 +174,7 @@ fn warn_words<'a>(
     Ok(())
 }
 
-/// Adds the notes on a step of this play. Fails only if an allocation fails.
+/// Adds the warnings about a step of this play. Fails only if an allocation fails.
 pub fn warn_step<'a>(
     alloc: Global,
     notes: &mut Notes<'a>,

@@ -18,7 +18,7 @@ pub(crate) struct SpannedTest<'c> {
     pub(crate) denied: bool,
 }
 
-/// Lists the tests of the condition from left to right; none if there is no condition. Fails only if an allocation fails.
+/// Returns the tests of the condition from left to right, or none if there is no condition. Fails only if an allocation fails.
 pub(crate) fn list_tests<'c>(
     alloc: Global,
     condition: &'c Option<Cond>,

@@ -1,4 +1,4 @@
-//! The hosts on which a step may read names undefined.
+//! The hosts on which a step may read undefined names.
 ghost use Rattle.std.specs.Prelude.{◌≡◌};
 ghost use Rattle.step_lints.specs.Inside.{AreMissed, missed_from};
 
@@ -25,7 +25,7 @@ impl<'a, 's> UndefinedReads<'a, 's> {
     ghost use Rattle.step_lints.specs.Inside.{crowd_of, missed_from};
     ghost use Rattle.lint_rules.specs.Notes.{seen};
 
-    /// Fails only if an allocation fails.
+    /// Finds these names for each waiting host. Fails only if an allocation fails.
     pub(crate) fn of(
         alloc: Global,
         crowd: WaitingHosts<'a, 's>,
@@ -41,7 +41,7 @@ impl<'a, 's> UndefinedReads<'a, 's> {
         Ok(UndefinedReads { crowd, stand, sets })
     }
 
-    /// Whether the step may read the name undefined on the waiting host at this place.
+    /// Reports whether the step may read the name undefined on the waiting host at this index.
     fn is_missed(&self, place: usize, name: &str) -> bool
         requires { place < length self.now.crowd.lacks.now.waiting.now }
         ensures { result ≡ misses (missed_from self.now.stand self.now.crowd.lacks.now.vars.now) name.now (slice_index_or self.now.crowd.lacks.now.waiting.now place 0) }
@@ -74,7 +74,7 @@ impl<'a, 's> UndefinedReads<'a, 's> {
         None
     }
 
-    /// Returns the note on a name that the step reads; a step before registers it, or none does.
+    /// Returns the warning about a name that the step reads and that an earlier step registers, or none does.
     pub(crate) fn name_note(&self, is_result: bool, at: StepPath, name: &'a str) -> Option<Note<'a>>
         ensures { option_map seen result ≡ name_note (crowd_of self.now.crowd) is_result (misses (missed_from self.now.stand self.now.crowd.lacks.now.vars.now)) at name.now }
     {

@@ -1,4 +1,4 @@
-//! The names that a step reads and that no step before it sets, each once.
+//! The names that a step reads and that no earlier step sets, each once.
 ghost use Rattle.std.specs.Prelude.{◌≡◌, ◌&&◌, ◌∷◌, ◌++◌, [], not, IfOk, OnOk};
 ghost use Rattle.step_lints.specs.NamesRead as reads;
 ghost use Rattle.step_lints.specs.NamesRead.{is_asked, is_asked_behind, names_asked};
@@ -13,7 +13,7 @@ use cond::Names;
 use play_model::Step;
 use std::alloc::{AllocError, Global};
 
-/// The names that no step before the one there registers, and that a waiting host lacks.
+/// The names that no earlier step registers and that a waiting host lacks.
 #[derive(Clone, Copy)]
 pub struct UnsetNames<'a, 's> {
     pub registered: &'s Registered<'a>,
@@ -44,7 +44,7 @@ impl Names for Behind<'_, '_> {
     }
 }
 
-/// Adds the name to those that were found, in their order and as a set.
+/// Adds the name to those that were found, both in order and as a set.
 fn add<'s>(
     name: &'s str,
     list: &mut Vec<&'s str>,
@@ -84,7 +84,8 @@ fn add_read<'s, N: Names>(
     Ok(())
 }
 
-/// Lists those that the step reads, each once: of some names before its program is run, and of others behind that. Fails only if an allocation fails.
+/// Returns the names that the step reads, each once. Of `names` these are the ones it reads before its program is run, and of `others`
+/// those it reads after. Fails only if an allocation fails.
 pub(crate) fn list_once<'p, N: Names, M: Names>(
     alloc: Global,
     step: &'p Step,
@@ -102,7 +103,7 @@ pub(crate) fn list_once<'p, N: Names, M: Names>(
     Ok(list)
 }
 
-/// Lists the names that the step reads and that nothing gives a value, each once, in the order of reading. Fails only if an allocation fails.
+/// Returns the names that the step reads and nothing defines, each once, in the order of reading. Fails only if an allocation fails.
 pub(crate) fn list_asked<'p>(
     alloc: Global,
     asked: &UnsetNames<'_, '_>,

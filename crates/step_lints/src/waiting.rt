@@ -18,7 +18,7 @@ use group_tree::HostId;
 use lint_rules::{Missing, Note, StepPath};
 use recap::host_name;
 
-/// The waiting hosts, what they have under names, and which results of the play may differ between them.
+/// The waiting hosts, their values of names, and which results of the play can differ between them.
 #[derive(Clone, Copy)]
 pub struct WaitingHosts<'a, 's> {
     pub fleet: &'a Fleet,
@@ -27,14 +27,14 @@ pub struct WaitingHosts<'a, 's> {
 }
 
 impl<'a> WaitingHosts<'a, '_> {
-    /// Whether a waiting host has no variable of this name.
+    /// Reports whether a waiting host has no variable of this name.
     pub(crate) fn is_lacked(&self, name: &str) -> bool
         ensures { result ≡ model.is_lacked (crowd_of self.now) name.now }
     {
         self.lacks.get(name).lack.is_some()
     }
 
-    /// Returns the note on a name that a step without conditions reads.
+    /// Returns the warning about a name that a step without conditions reads.
     pub(crate) fn name_note(&self, at: StepPath, name: &'a str) -> Option<Note<'a>>
         ensures { option_map seen result ≡ model.name_note (crowd_of self.now) false (model.lacks (crowd_of self.now)) at name.now }
     {
@@ -44,7 +44,7 @@ impl<'a> WaitingHosts<'a, '_> {
         }
     }
 
-    /// Returns the first whose name starts with a dash.
+    /// Returns the first waiting host whose name starts with a dash.
     fn first_dashed_host(&self) -> Option<usize>
         ensures { result ≡ find (λ host. is_dashed (host_at self.now.fleet.now.hosts host)) self.now.lacks.now.waiting.now }
     {
@@ -78,7 +78,7 @@ fn missing_from<'a>(crowd: &WaitingHosts<'a, '_>, lack: MissingCount) -> Missing
     }
 }
 
-/// Returns the note on a name that these of the waiting hosts may read undefined; a step before registers it, or none does.
+/// Returns the warning about a name that these of the waiting hosts may read undefined. An earlier step registers it, or none does.
 pub(crate) fn lack_note<'a>(
     crowd: &WaitingHosts<'a, '_>,
     is_result: bool,

@@ -1,4 +1,4 @@
--- JSON strings are read as what is shown of their strings.
+-- JSON strings parse to what is shown of their sources.
 use Rattle.std.proofs.Common.{◌≡◌, ℕ, ◌-◌, Bool, true, false, not, ◌&&◌, cond, nat_lt, List, [], ◌∷◌, ◌++◌, refl, sym, ap, subst, ◌∙◌, arith}
 use Rattle.std.specs.Prelude.{Option, Some, codes, ◌==◌}
 use Rattle.std.proofs.lemmas.Bool.{cond_both, eqb-true}
@@ -8,15 +8,15 @@ use Rattle.terminal_text.specs.Laws.{LineSaysWhatIsShown, LinesSayWhatIsShown, T
 use Rattle.terminal_text.specs.Marks.{is_control, marked}
 use Rattle.terminal_text.specs.Texts.{byte_json, line_byte, question, shown, text_by}
 
--- after these bytes what is read continues with these
+-- after these bytes, the parsed text continues with these
 abbrev Goes : (List ℕ → Option (List ℕ)) → List ℕ → List ℕ → Type 0
 Goes read bytes said = (more behind : List ℕ) → read more ≡ Some behind → read (bytes ++ more) ≡ Some (said ++ behind)
 
--- these bytes stand for one
+-- these bytes mean one byte
 abbrev StandFor : (List ℕ → Option (List ℕ)) → List ℕ → ℕ → Type 0
 StandFor read bytes byte = (more : List ℕ) → read (bytes ++ more) ≡ with_first (Some byte) (read more)
 
--- what may stand between quotation marks as it is stands for itself
+-- a byte that is allowed unescaped between quotation marks means itself
 abbrev IsPlain : (List ℕ → Option (List ℕ)) → ℕ → Type 0
 IsPlain read byte = (byte == 92) ≡ false → (byte == 34) ≡ false → nat_lt byte 32 ≡ false → StandFor read (byte ∷ []) byte
 
@@ -28,7 +28,7 @@ module _ (read : List ℕ → Option (List ℕ)) (nothing : read [] ≡ Some [])
   question_goes : Goes read (codes "?") (63 ∷ [])
   question_goes = goes (codes "?") 63 (plain 63 refl refl refl)
 
-  -- two bytes that stand for this one
+  -- two bytes that mean this one
   both : (byte one : ℕ) (bytes : List ℕ) → StandFor read bytes one → shown one ≡ one → (byte == one) ≡ true → Goes read bytes (shown byte ∷ [])
   both byte one bytes stand stays is =
       subst (λ (b : ℕ). Goes read bytes (b ∷ [])) (sym stays ∙ ap shown (sym (eqb-true byte one is))) (goes bytes one stand)
@@ -45,7 +45,7 @@ module _ (read : List ℕ → Option (List ℕ)) (nothing : read [] ≡ Some [])
   byte_goes byte false false true _ _ is = both byte 9 (codes "\\t") (letter 116) refl is
   byte_goes byte false false false no_end no_escape no_tab = other_goes byte no_end no_escape no_tab
 
-  -- where a line feed stands for this one
+  -- a line feed is replaced by bytes that mean this one
   feed_goes : (feed : List ℕ) (one byte : ℕ) → Goes read feed (one ∷ []) → Goes read (byte_json feed byte) (cond (byte == 10) one (shown byte) ∷ [])
   feed_goes feed one byte is = by (byte == 10)
     where
@@ -54,7 +54,7 @@ module _ (read : List ℕ → Option (List ℕ)) (nothing : read [] ≡ Some [])
       by true = is
       by false = byte_goes byte (byte == 34) (byte == 92) (byte == 9) refl refl refl
 
-  -- it is a question mark
+  -- a line feed becomes a question mark
   line_goes : (byte : ℕ) → Goes read (byte_json (codes "?") byte) (shown byte ∷ [])
   line_goes byte =
       let same = cond_both (byte == 10) 63 (shown byte) (λ (b : ℕ). b ≡ shown byte) (λ is. sym (ap shown (eqb-true byte 10 is))) (λ _. refl) in

@@ -1,8 +1,8 @@
--- Bytes between the quotes of a shell.
+-- Bytes between shell quotes.
 use Rattle.std.specs.Prelude.{ℕ, ◌+◌, ◌/◌, ◌%◌, ◌==◌, nat_lt, if◌then◌else◌, List, [], ◌∷◌, ◌++◌, codes}
 use Rattle.terminal_text.specs.Marks.{is_control}
 
--- a digit of a hexadecimal number
+-- a hexadecimal digit
 abbrev pub hex_digit : ℕ → ℕ
 hex_digit digit = if nat_lt digit 10 then 48 + digit else 87 + digit
 

@@ -1,12 +1,12 @@
--- How strings of JSON are read.
+-- How JSON strings are parsed.
 use Rattle.std.specs.Prelude.{ℕ, Bool, true, false, ◌||◌, ◌==◌, nat_lt, if◌then◌else◌, Option, None, Some, List, [], ◌∷◌}
 
--- the byte for which a backslash and this letter stand
+-- the byte that this letter means after a backslash
 abbrev pub letter_said : ℕ → Option ℕ
 letter_said letter =
     if letter == 34 || letter == 92 then Some letter else (if letter == 116 then Some 9 else (if letter == 110 then Some 10 else None))
 
--- the byte that stands for itself: a quotation mark would end the string, and no control character may stand in it
+-- the byte that means itself: a quotation mark would end the string, and control characters are not allowed
 abbrev pub byte_said : ℕ → Option ℕ
 byte_said byte = if byte == 34 || nat_lt byte 32 then None else Some byte
 
@@ -15,7 +15,7 @@ with_first None said = None
 with_first (Some byte) None = None
 with_first (Some byte) (Some said) = Some (byte ∷ said)
 
--- what the bytes between its quotation marks say, behind a backslash or not; nothing where they are no such bytes
+-- what the bytes between the quotation marks mean, after a backslash or not; none if they are not valid
 abbrev pub said_from : Bool → List ℕ → Option (List ℕ)
 said_from true [] = None
 said_from false [] = Some []
@@ -25,14 +25,14 @@ said_from false (byte ∷ rest) = if byte == 92 then said_from true rest else wi
 abbrev pub string_said : List ℕ → Option (List ℕ)
 string_said bytes = said_from false bytes
 
--- where one is in an array of strings: in one of them, there behind a backslash, behind its end, or behind the comma
+-- a position in an array of strings: in a string, in one after a backslash, after its end, or after the comma
 pub data Place : Type 0 where
   inside : Place
   escape : Place
   end : Place
   comma : Place
 
--- what its strings say, each of which is a line, from behind the first quotation mark to the last one
+-- what the strings mean, one line each, from after the first quotation mark to the last one
 abbrev pub lines_from : Place → List ℕ → Option (List ℕ)
 lines_from inside [] = Some []
 lines_from escape [] = None

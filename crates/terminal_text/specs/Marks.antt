@@ -1,4 +1,4 @@
--- Characters that would control a terminal or turn the direction of text.
+-- Characters that would control a terminal or change the text direction.
 use Rattle.std.specs.Prelude.{ℕ, ◌&&◌, ◌||◌, ◌==◌, Bool, false, nat_lt, nat_le, if◌then◌else◌, List, [], ◌∷◌, slice_index_or}
 
 -- a control character of one byte
@@ -21,18 +21,19 @@ is_mark_of_three first second third =
 abbrev pub mark_of : ℕ → ℕ → ℕ → ℕ
 mark_of first second third = if is_mark_of_two first second then 2 else (if is_mark_of_three first second third then 3 else 0)
 
--- how many bytes the mark has that these start with: a control character of several bytes, a separator of lines, or one that turns the direction of text
+-- the length of the mark that the bytes start with: a multi-byte control character, a line separator, or a mark of
+-- text direction
 abbrev pub mark_length : List ℕ → ℕ
 mark_length bytes = mark_of (slice_index_or bytes 0 0) (slice_index_or bytes 1 0) (slice_index_or bytes 2 0)
 
--- how many of these bytes belong to a mark, if so many of one are left
+-- how many of these bytes belong to a mark, if `left` bytes of one remain
 abbrev pub marked : ℕ → List ℕ → ℕ
 marked left bytes = if nat_lt 0 left then left else mark_length bytes
 
 abbrev pub starts_hidden : List ℕ → Bool
 starts_hidden bytes = is_control (slice_index_or bytes 0 0) || nat_lt 0 (mark_length bytes)
 
--- a control byte or a mark is in them
+-- the bytes contain a control byte or a mark
 abbrev pub has_hidden : List ℕ → Bool
 has_hidden [] = false
 has_hidden (byte ∷ rest) = starts_hidden (byte ∷ rest) || has_hidden rest

@@ -10,14 +10,14 @@ use Rattle.terminal_text.specs.Texts.{question, text_by}
 abbrev pub is_plain : ℕ → Bool
 is_plain byte = is_ascii_alphanumeric byte || list_any (λ sign. byte == sign) (codes "@%+=:,./_-")
 
--- the word may stand as it is
+-- the word needs no quotes
 abbrev pub is_bare : List ℕ → Bool
 is_bare word = nat_lt 0 (length word) && list_all is_plain word
 
 abbrev pub between : List ℕ → List ℕ → List ℕ
 between front text = front ++ (text ++ codes "'")
 
--- a word with a control byte or a mark has escapes
+-- a word as a shell reads it: unquoted, with escapes if it has a control byte or a mark, otherwise in quotes
 abbrev pub shell_word : List ℕ → List ℕ
 shell_word word =
     if is_bare word

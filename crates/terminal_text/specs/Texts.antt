@@ -1,15 +1,15 @@
--- Strings of others as a terminal gets them.
+-- Untrusted strings as written to a terminal.
 use Rattle.std.specs.Prelude.{ℕ, ◌-◌, ◌&&◌, ◌==◌, Bool, not, nat_lt, if◌then◌else◌, List, [], ◌∷◌, ◌++◌, codes, length, slice_index_or}
 use Rattle.terminal_text.specs.Escapes as shell
 use Rattle.terminal_text.specs.Marks.{is_control, marked}
 use Rattle.terminal_text.specs.declared.layout.Layout.{Layout}
 use Rattle.terminal_text.specs.declared.layout.Layout.TheVariants.{OneLine, Lines, Output, Json, Escaped, Quoted}
 
--- a byte as a terminal gets it: a control character but for the tabulator is a question mark
+-- a byte as written to a terminal: a control character other than the tab becomes a question mark
 abbrev pub shown : ℕ → ℕ
 shown byte = if is_control byte && not (byte == 9) then 63 else byte
 
--- the same, but a line feed stays
+-- likewise, but a line feed stays
 abbrev pub line_byte : ℕ → ℕ
 line_byte byte = if byte == 10 then 10 else shown byte
 
@@ -17,11 +17,12 @@ line_byte byte = if byte == 10 then 10 else shown byte
 abbrev pub front_text : List ℕ → List ℕ → List ℕ
 front_text host end = codes "  " ++ (host ++ (codes " " ++ (end ++ codes ": ")))
 
--- a byte of an output; after a line feed the next line starts as the first one did
+-- a byte of an output; the line after a line feed starts with the same prefix
 abbrev pub byte_text : List ℕ → List ℕ → ℕ → List ℕ
 byte_text host end byte = if byte == 10 then codes "\n" ++ front_text host end else shown byte ∷ []
 
--- a byte in a JSON string, where a line feed is written so: as a terminal gets it, but for the three that can't stand there
+-- a byte in a JSON string, with `feed` for a line feed: three bytes are escaped, the others are as written to a
+-- terminal
 abbrev pub byte_json : List ℕ → ℕ → List ℕ
 byte_json feed byte =
     if byte == 10 then feed else (if byte == 34 then codes "\\\"" else (if byte == 92 then codes "\\\\" else (if byte == 9 then codes "\\t" else shown byte ∷ [])))
@@ -35,21 +36,21 @@ byte_in (Json feed) byte = byte_json feed.now byte
 byte_in Escaped byte = shell.escaped byte
 byte_in Quoted byte = shell.quoted byte
 
--- a byte of a mark, the first or another one: a mark is one question mark
+-- a byte of a mark, the first or another one: a mark becomes one question mark
 abbrev pub question : Bool → ℕ → List ℕ
 question is_first byte = if is_first then codes "?" else []
 
--- but within escapes it is its bytes' numbers
+-- a byte of a mark in this layout: in escapes, its number
 abbrev pub mark_in : Layout → Bool → ℕ → List ℕ
 mark_in Escaped is_first byte = shell.number_of byte
 mark_in layout is_first byte = question is_first byte
 
--- the first of these bytes, where so many of a mark are left, by what is written of a byte of a mark and of each other one
+-- the first of these bytes, if `left` bytes of a mark remain; the functions write a byte of a mark and any other byte
 abbrev pub first_text : (Bool → ℕ → List ℕ) → (ℕ → List ℕ) → ℕ → List ℕ → List ℕ
 first_text mark piece left bytes =
     if nat_lt 0 (marked left bytes) then mark (left == 0) (slice_index_or bytes 0 0) else piece (slice_index_or bytes 0 0)
 
--- all of them
+-- all of the bytes, likewise
 abbrev pub text_by : (Bool → ℕ → List ℕ) → (ℕ → List ℕ) → ℕ → List ℕ → List ℕ
 text_by mark piece left [] = []
 text_by mark piece left (byte ∷ rest) =
@@ -62,11 +63,11 @@ text_in layout bytes = text_by (mark_in layout) (byte_in layout) 0 bytes
 abbrev pub shown_text : List ℕ → List ℕ
 shown_text bytes = text_by question (λ byte. shown byte ∷ []) 0 bytes
 
--- on lines of its own
+-- a string on several lines
 abbrev pub lines_text : List ℕ → List ℕ
 lines_text bytes = text_by question (λ byte. line_byte byte ∷ []) 0 bytes
 
--- in a JSON string, where a line feed is written so
+-- a string in a JSON string, with `feed` for each line feed
 abbrev pub escaped_text : List ℕ → List ℕ → List ℕ
 escaped_text feed bytes = text_by question (byte_json feed) 0 bytes
 

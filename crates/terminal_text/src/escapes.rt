@@ -1,4 +1,4 @@
-//! Bytes between the quotes of a shell.
+//! Bytes between shell quotes.
 ghost use Rattle.std.specs.Prelude.{◌≡◌, ◌∷◌, [], ◌<◌};
 ghost use Rattle.bounded_io.specs.Writing.{Writes};
 ghost use Rattle.terminal_text.specs.Escapes as spec;
@@ -7,7 +7,7 @@ use crate::marks::is_control;
 use bounded_io::TextWriter;
 use std::io::Write;
 
-/// Continues with a byte between `$'` and `'`.
+/// Writes a byte between `$'` and `'`.
 pub(crate) fn write_escaped_byte<W: Write>(text: &mut TextWriter<'_, W>, byte: u8)
     ensures { Writes W.contents text.old text.new (spec.escaped byte) }
 {
@@ -22,7 +22,7 @@ pub(crate) fn write_escaped_byte<W: Write>(text: &mut TextWriter<'_, W>, byte: u
     }
 }
 
-/// Continues with a byte between `'` and `'`.
+/// Writes a byte between `'` and `'`.
 pub(crate) fn write_quoted_byte<W: Write>(text: &mut TextWriter<'_, W>, byte: u8)
     ensures { Writes W.contents text.old text.new (spec.quoted byte) }
 {
@@ -33,7 +33,7 @@ pub(crate) fn write_quoted_byte<W: Write>(text: &mut TextWriter<'_, W>, byte: u8
     }
 }
 
-/// Continues with `\xHH`.
+/// Writes `\xHH`.
 #[tactic(auto, using(bounded_io::proofs::Pieces::pieces_of_text))]
 pub(crate) fn write_number_of<W: Write>(text: &mut TextWriter<'_, W>, byte: u8)
     ensures { Writes W.contents text.old text.new (spec.number_of byte) }

@@ -1,4 +1,4 @@
-//! What each byte of a string is written as.
+//! How each byte of a string is written.
 ghost use Rattle.std.specs.Prelude.{◌≡◌};
 ghost use Rattle.bounded_io.specs.Writing.{Writes};
 ghost use Rattle.terminal_text.specs.Texts as spec;
@@ -8,20 +8,20 @@ use crate::marks::is_control;
 use bounded_io::TextWriter;
 use std::io::Write;
 
-/// Where a string is written, which decides what its line feeds and escapes are.
+/// Where a string is written, which decides how its line feeds and escapes are written.
 #[derive(Clone, Copy)]
 pub(crate) enum Layout<'a> {
     /// One line.
     OneLine,
-    /// Lines of their own.
+    /// Several lines, on which line feeds stay.
     Lines,
-    /// The lines of a host's output, each after these names of the host and the output.
+    /// The lines of a host's output, each after the names of the host and the output.
     Output(&'a str, &'a str),
-    /// A JSON string, with this for a line feed.
+    /// A JSON string, with this replacement for a line feed.
     Json(&'a str),
-    /// A shell's word between `$'` and `'`.
+    /// A shell word between `$'` and `'`.
     Escaped,
-    /// A shell's word between `'` and `'`.
+    /// A shell word between `'` and `'`.
     Quoted,
 }
 
@@ -41,7 +41,7 @@ fn line_byte(byte: u8) -> u8
     if byte == b'\n' { byte } else { shown(byte) }
 }
 
-/// Continues with what each line of an output starts with.
+/// Writes the prefix of each line of an output.
 #[tactic(auto, using(bounded_io::proofs::Pieces::pieces_of_text))]
 pub(crate) fn write_front<W: Write>(text: &mut TextWriter<'_, W>, host: &str, end: &str)
     ensures { Writes W.contents text.old text.new (spec.front_text host.now end.now) }
@@ -77,7 +77,7 @@ fn write_json_byte<W: Write>(text: &mut TextWriter<'_, W>, feed: &str, byte: u8)
     }
 }
 
-/// Continues with a byte that belongs to no mark.
+/// Writes a byte that belongs to no mark.
 pub(crate) fn write_byte<W: Write>(text: &mut TextWriter<'_, W>, layout: &Layout<'_>, byte: u8)
     ensures { Writes W.contents text.old text.new (spec.byte_in layout.now byte) }
 {
@@ -91,7 +91,7 @@ pub(crate) fn write_byte<W: Write>(text: &mut TextWriter<'_, W>, layout: &Layout
     }
 }
 
-/// Continues with a byte of a mark: its first one or another.
+/// Writes a byte of a mark: its first one or another.
 pub(crate) fn write_mark_byte<W: Write>(
     text: &mut TextWriter<'_, W>,
     layout: &Layout<'_>,

@@ -1,4 +1,4 @@
-//! How strings of others are shown on a terminal: in lines, in JSON strings, and as words that a shell reads.
+//! How untrusted strings are shown on a terminal: on lines, in JSON strings, and as shell words.
 #![tactic(auto)]
 
 mod escapes;

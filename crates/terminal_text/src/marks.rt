@@ -1,8 +1,8 @@
-//! Characters that would control a terminal or turn the direction of text: control bytes, and marks of several bytes.
+//! Characters that would control a terminal or change the text direction: control bytes, and marks of several bytes.
 ghost use Rattle.std.specs.Prelude.{◌≡◌, slice_index_or};
 ghost use Rattle.terminal_text.specs.Marks as spec;
 
-/// The byte at this place; 0 past the end.
+/// Returns the byte at this index, or 0 past the end.
 pub fn byte_at(bytes: &[u8], place: usize) -> u8
     ensures { result ≡ slice_index_or bytes.now place 0 }
 {
@@ -18,14 +18,15 @@ pub(crate) fn is_control(byte: u8) -> bool
     byte < b' ' || byte == 0x7f
 }
 
-/// How many of these bytes belong to a mark: those that are left of one, or else those of the mark that they start with.
+/// Returns the number of leading bytes that belong to a mark: the `left` bytes of a started mark, otherwise the
+/// length of a mark that starts here.
 pub(crate) fn marked(left: usize, bytes: &[u8]) -> usize
     ensures { result ≡ spec.marked left bytes.now }
 {
     if left > 0 { left } else { mark_len(bytes) }
 }
 
-/// Whether a control byte or a mark is in these bytes.
+/// Returns whether these bytes contain a control byte or a mark.
 pub(crate) fn has_hidden(bytes: &[u8]) -> bool
     ensures { result ≡ spec.has_hidden bytes.now }
 {
@@ -49,7 +50,7 @@ fn mark_len(bytes: &[u8]) -> usize
     mark_of(byte_at(bytes, 0), byte_at(bytes, 1), byte_at(bytes, 2))
 }
 
-/// U+0080 to U+009F, U+061C, U+200E, U+200F, U+2028 to U+202E, and U+2066 to U+2069.
+/// Recognizes U+0080 to U+009F, U+061C, U+200E, U+200F, U+2028 to U+202E, and U+2066 to U+2069.
 fn mark_of(first: u8, second: u8, third: u8) -> usize
     ensures { result ≡ spec.mark_of first second third }
 {

@@ -11,7 +11,7 @@ use crate::text::write_text;
 use bounded_io::TextWriter;
 use std::io::Write;
 
-/// Continues with a word as it is, or in quotes.
+/// Writes a word unquoted if a shell reads it unchanged, otherwise in quotes.
 #[tactic(auto, using(bounded_io::proofs::Pieces::pieces_of_text))]
 pub fn write_shell_word<W: Write>(text: &mut TextWriter<'_, W>, word: &[u8])
     ensures { Writes W.contents text.old text.new (spec.shell_word word.now) }

@@ -1,4 +1,4 @@
-//! Writes strings of others, byte by byte.
+//! Writes untrusted strings byte by byte.
 ghost use Rattle.std.specs.Prelude.{◌≡◌, ◌<◌, ◌-◌, length};
 ghost use Rattle.bounded_io.specs.Writing.{Writes};
 ghost use Rattle.terminal_text.specs.Marks.{marked};
@@ -9,7 +9,7 @@ use crate::marks::{byte_at, marked};
 use bounded_io::TextWriter;
 use std::io::Write;
 
-/// Continues with the first of these bytes, of which so many are left of a mark; returns how many are left of it then.
+/// Writes the first byte, if `left` bytes of a started mark remain. Returns how many remain after it.
 fn write_first<W: Write>(
     text: &mut TextWriter<'_, W>,
     layout: &Layout<'_>,
@@ -29,7 +29,7 @@ fn write_first<W: Write>(
     0
 }
 
-/// Continues with a string of others.
+/// Writes an untrusted string.
 pub(crate) fn write_text<W: Write>(text: &mut TextWriter<'_, W>, layout: &Layout<'_>, bytes: &[u8])
     ensures { Writes W.contents text.old text.new (spec.text_in layout.now bytes.now) }
 {
@@ -39,28 +39,28 @@ pub(crate) fn write_text<W: Write>(text: &mut TextWriter<'_, W>, layout: &Layout
     }
 }
 
-/// Continues with a string of others on one line.
+/// Writes an untrusted string on one line.
 pub fn write_shown<W: Write>(text: &mut TextWriter<'_, W>, bytes: &[u8])
     ensures { Writes W.contents text.old text.new (spec.shown_text bytes.now) }
 {
     write_text(text, &Layout::OneLine, bytes);
 }
 
-/// Continues with a string of others that may have several lines.
+/// Writes an untrusted string that can have several lines.
 pub fn write_lines<W: Write>(text: &mut TextWriter<'_, W>, bytes: &[u8])
     ensures { Writes W.contents text.old text.new (spec.lines_text bytes.now) }
 {
     write_text(text, &Layout::Lines, bytes);
 }
 
-/// Continues with a string of others in a JSON string, with this for each line feed.
+/// Writes an untrusted string into a JSON string, with this replacement for each line feed.
 pub fn write_escaped<W: Write>(text: &mut TextWriter<'_, W>, feed: &str, bytes: &[u8])
     ensures { Writes W.contents text.old text.new (spec.escaped_text feed.now bytes.now) }
 {
     write_text(text, &Layout::Json(feed), bytes);
 }
 
-/// Continues with an output, each line after the names of the host and of the output.
+/// Writes an output, each line after the names of the host and of the output.
 #[tactic(auto, using(bounded_io::proofs::Pieces::pieces_of_text))]
 pub fn write_output<W: Write>(text: &mut TextWriter<'_, W>, host: &str, end: &str, bytes: &[u8])
     ensures { Writes W.contents text.old text.new (spec.output_text host.now end.now bytes.now) }

@@ -1,4 +1,4 @@
-//! Calls that, where they were refused memory, are made again.
+//! Calls that are retried if an allocation fails.
 ghost use Rattle.std.specs.Prelude.{IfOk};
 ghost use Rattle.domains.specs.Fleets.{IsFleetOf};
 
@@ -10,7 +10,7 @@ use play_read::read_play;
 use playbook_schema::PlayFault;
 use std::alloc::{AllocError, Global};
 
-/// The fleet of a tree.
+/// Returns the fleet of a tree.
 pub fn fleet_again(alloc: Global, tree: &Tree<Global>) -> Result<Fleet, FleetFault>
     ensures { IfOk result (IsFleetOf tree.now) }
 {
@@ -20,7 +20,7 @@ pub fn fleet_again(alloc: Global, tree: &Tree<Global>) -> Result<Fleet, FleetFau
     }
 }
 
-/// The variables of each host of a fleet.
+/// Returns the variables of each host of a fleet.
 pub fn vars_again(
     alloc: Global,
     tree: &Tree<Global>,
@@ -34,7 +34,7 @@ pub fn vars_again(
     }
 }
 
-/// The play of a playbook.
+/// Returns the play of a playbook.
 pub fn play_again(alloc: Global, playbook: &str) -> Result<Play, PlayFault> {
     match read_play(alloc, playbook.as_bytes()) {
         Err(PlayFault::Memory) => read_play(alloc, playbook.as_bytes()),

@@ -2,7 +2,7 @@
 use group_tree::{Group, GroupFault, Limit};
 use std::alloc::{Allocator, Global};
 
-/// A group with these hosts, which have no variables, and a limit of so many hosts.
+/// Returns a group with these hosts, which have no variables, and this limit.
 pub fn group<A: Allocator + Clone>(
     alloc: A,
     name: &str,
@@ -16,7 +16,7 @@ pub fn group<A: Allocator + Clone>(
     Ok(group)
 }
 
-/// The group with one more child.
+/// Returns the group with one more child.
 pub fn with<A: Allocator + Clone>(
     mut group: Group<A>,
     child: Group<A>,
@@ -25,13 +25,13 @@ pub fn with<A: Allocator + Clone>(
     Ok(group)
 }
 
-/// So many hosts, of which as many may be down as `limit` says.
+/// Returns a tree with one limited group of these hosts.
 fn limited(alloc: Global, limit: u16, hosts: &[&str]) -> Result<Group<Global>, GroupFault> {
     let limited = group(alloc, "g", Some(limit), hosts)?;
     with(group(alloc, "all", None, &[])?, limited)
 }
 
-/// The same, made again where it was refused memory.
+/// Likewise, but retries if an allocation fails.
 pub fn limited_again(
     alloc: Global,
     limit: u16,

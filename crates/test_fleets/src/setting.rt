@@ -1,4 +1,4 @@
-//! Fleets with a play and variables, and boards over them on which all hosts wait. A call that was refused memory is made again.
+//! Fleets with a play and variables, and boards over them on which all hosts wait. A call is retried if an allocation fails.
 ghost use Rattle.std.specs.Prelude.{◌≡◌, ◌<◌, ◌≤◌, IfOk, length, replicate};
 ghost use Rattle.fleet_states.specs.declared.status.Status.TheVariants.{Waiting};
 
@@ -12,7 +12,7 @@ use std::alloc::{AllocError, Global};
 use std::sync::ledger::{Blank, Ledger};
 use std::test::Fail;
 
-/// A fleet all of whose hosts wait, and a play.
+/// A fleet whose hosts all wait, and a play.
 #[derive(Drop)]
 pub struct Setting {
     pub fleet: Fleet,
@@ -47,7 +47,7 @@ fn fleet_and_vars(alloc: Global, all: Group<Global>) -> Result<(Fleet, Vec<Vars>
     Ok((fleet, vars))
 }
 
-/// The fleet of a group, and the play of a playbook.
+/// Returns the fleet of a group, with the play of a playbook.
 pub fn set_up(alloc: Global, all: Group<Global>, playbook: &str) -> Result<Setting, Fail> {
     let (fleet, vars) = fleet_and_vars(alloc, all)?;
     let statuses = waiting_again(alloc, fleet.hosts())?;
@@ -62,7 +62,7 @@ pub fn set_up(alloc: Global, all: Group<Global>, playbook: &str) -> Result<Setti
     })
 }
 
-/// A board on which nothing has happened. Want of memory drops the history.
+/// Returns a board on which nothing has happened. If an allocation fails, drops the history.
 pub fn board_of<'s, R: Runner, L: Ledger>(
     alloc: Global,
     setting: &'s Setting,

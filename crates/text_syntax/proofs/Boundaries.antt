@@ -1,4 +1,4 @@
--- Where a text may be cut: behind a run of bytes of ASCII, and behind one or two of them.
+-- Where a text can be split: after a run of ASCII bytes, and after one or two of them.
 use Rattle.std.proofs.Common.{◌≡◌, ℕ, suc, zero, ◌+◌, ◌<◌, ◌≤◌, Bool, true, List, length, get_or, arith, subst, refl, sym, ⊎_elim, ◌==◌}
 use Rattle.std.specs.List.{prefix_len}
 use Rattle.std.specs.Str.{IsCharBoundary, IsUtf8}
@@ -29,12 +29,12 @@ run_ends test ascii bytes utf8 = by_length (prefix_len test bytes) refl
         let same : n + 1 ≡ suc n = omega arith in
         subst (IsCharBoundary bytes) same (IsCharBoundary-after_ascii bytes n utf8 within small)
 
--- behind the byte at this index, which is a character of ASCII
+-- after the byte at this index, which is an ASCII character
 pub behind_byte : (bytes : List ℕ) (index place : ℕ) → place ≡ index + 1 → IsUtf8 bytes → index < length bytes → get_or bytes index 0 < 128 → IsCharBoundary bytes place
 behind_byte bytes index place e utf8 within small =
     subst (IsCharBoundary bytes) (sym e) (IsCharBoundary-after_ascii bytes index utf8 within small)
 
--- a byte other than 0 is one that the text has
+-- a byte other than 0 is inside the text
 pub has_byte : (bytes : List ℕ) (index : ℕ) → 0 < get_or bytes index 0 → index < length bytes
 has_byte bytes index some = ⊎_elim (λ l. l) past (cases_lt index (length bytes))
   where

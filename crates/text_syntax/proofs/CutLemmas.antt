@@ -1,4 +1,4 @@
--- Where `split_once` cuts, where the pattern matches characters of ASCII by a test.
+-- Where `split_once` splits, if the pattern is a test of ASCII characters.
 use Rattle.std.proofs.Common.{◌≡◌, ℕ, ◌+◌, ◌<◌, ◌≤◌, Bool, true, false, List, [], length, take, drop, get_or, sym, refl, ap, ◌∙◌, arith, Option, Some, None, Bor}
 use Rattle.std.specs.Option.{MatchOption, unwrap_or}
 use Rattle.std.specs.List.{position_or_len, before_first, after_first}
@@ -35,7 +35,7 @@ module _ (p : ℕ → Bool) (ascii : (c : ℕ) → p c ≡ true → c < 128) (Ma
   abbrev CutBy : List ℕ → Option (ℕ × ℕ) → Type 0
   CutBy s o = (test : ℕ → Bool) → Matches test → FindsBy test s o
 
-  -- a text is cut into two: what stands before the first byte that passes, and what stands behind it
+  -- a text is split in two: the part before the first byte that passes, and the part after it
   abbrev Halves : Type 0
   Halves = Bor (List ℕ) × Bor (List ℕ)
 

@@ -19,7 +19,7 @@ none_unless : (test : Bool) (text : List ℕ) → (test ≡ true → (0 < length
 none_unless false text parts unread = refl
 none_unless true text parts unread = absurd (unread (parts refl))
 
--- digits that `parse` does not read are none, or write a number past 65,535
+-- if `parse` rejects digits, there are none, or their number exceeds 65,535
 pub number_unread : {E : Type 0} (digits most : ℕ) (text : List ℕ) (read : Result ℕ E) (error : E) → most < 65536 → read ≡ Err error → ParsesUnsigned 16 10 text read → list_all is_ascii_digit text ≡ true → None ≡ number_in_digits digits most text
 number_unread digits most text read error small is parses all =
     sym (none_unless (are_digits digits text && nat_le (digits_value 10 text) most) text parts unread)

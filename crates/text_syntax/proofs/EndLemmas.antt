@@ -1,4 +1,4 @@
--- Bytes without those at their start, or at their end, that pass a test: byte by byte.
+-- Bytes without the leading, or trailing, ones that pass a test, byte by byte.
 use Rattle.std.proofs.Common.{◌≡◌, ℕ, suc, ◌+◌, ◌-◌, ◌<◌, ◌≤◌, Bool, true, false, cond, List, [], ◌∷◌, ◌++◌, length, take, drop, reverse, refl, ap, ◌∙◌, arith, length-append}
 use Rattle.std.specs.List.{prefix_len, suffix_len}
 use Rattle.std.proofs.lemmas.List.{reverse-append, length-reverse, take-append-le, take_all, length-take-le}
@@ -13,7 +13,7 @@ module _ (p : ℕ → Bool) where
   pub without_leading-no : (x : ℕ) (xs : List ℕ) → p x ≡ false → without_leading p (x ∷ xs) ≡ x ∷ xs
   without_leading-no x xs e = ap (λ b. drop (cond b (1 + prefix_len p xs) 0) (x ∷ xs)) e
 
-  -- what is left is nothing, or begins with a byte that fails the test
+  -- the rest is empty, or starts with a byte that fails the test
   pub first_left : (xs : List ℕ) → 0 < length (without_leading p xs) → (y : ℕ) × (ys : List ℕ) × (without_leading p xs ≡ y ∷ ys) × (p y ≡ false)
   first_left [] some = absurd (omega (arith, some))
   first_left (x ∷ xs) some = by_case (first_left xs) (p x) refl

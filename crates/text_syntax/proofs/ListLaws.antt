@@ -1,4 +1,4 @@
--- The elements of a list and the entries of an object, as they are kept.
+-- The elements of a list and the entries of an object, as stored.
 use Rattle.std.proofs.Common.{◌≡◌, ℕ, suc, Option, Some, List, [], ◌∷◌, length, option_map, sym, ap, subst, refl, String}
 use Rattle.std.specs.declared.alloc.Global.{Global}
 use Rattle.serde_json.specs.Data.{Data, Items}

@@ -1,4 +1,4 @@
--- A word's parts, from the one in front.
+-- The parts of an argument, from the first on.
 use Rattle.std.proofs.Common.{◌≡◌, ℕ, suc, zero, ◌<◌, ◌≤◌, Bool, true, false, cond, Option, Some, None, List, [], ◌∷◌, length, drop, arith, refl, sym, ap, ◌∙◌, length-drop, ◌==◌}
 use Rattle.std.proofs.lemmas.Bool.Decides.{nat_tests}
 use Rattle.text_syntax.specs.Words.{Ref, Part, is_opening, is_dotted, behind_dot, plain_length, part_in, behind_part, behind_ref, behind_word, hole_in, behind_hole_or_braces, first_parts, parts_of}
@@ -35,7 +35,7 @@ behind_part-shorter byte bytes = by_case (is_opening (byte ∷ bytes)) refl
     by_case false e =
         omega (arith, length-drop (plain_length (byte ∷ bytes)) (byte ∷ bytes), plain_length-other byte bytes e)
 
--- a count that is great enough gives all parts
+-- any sufficient count gives all parts
 enough : (some more : ℕ) (bytes : List ℕ) → length bytes ≤ some → length bytes ≤ more → first_parts some bytes ≡ first_parts more bytes
 unfolding first_parts
 enough zero zero bytes l m = refl
@@ -71,7 +71,7 @@ parts_of-empty (byte ∷ bytes) e = absurd (grind (arith, nat_tests))
 pub is_filled : (word : List ℕ) → (length word == 0) ≡ false → 0 < length word
 is_filled word e = grind (arith, nat_tests)
 
--- a part that is lent, and the rest, as a word's first part
+-- a borrowed part, and the rest, as an argument's first part
 pub first_is : (word rest : List ℕ) (first : Part) → first ≡ part_in word → rest ≡ behind_part word → 0 < length word → (parts_of word ≡ first ∷ parts_of rest) × (length rest < length word)
 first_is word rest first p r l =
     let some = parts_of-some word l in

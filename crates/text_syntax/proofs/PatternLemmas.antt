@@ -1,4 +1,4 @@
--- The parts of a pattern, from what stands at its start.
+-- The parts of a pattern, from its start on.
 use Rattle.std.proofs.Common.{◌≡◌, ℕ, suc, ◌+◌, ◌<◌, ◌≤◌, Bool, true, false, ◌||◌, not, cond, List, [], ◌∷◌, length, take, map, get_or, sym, refl, ap, ◌∙◌, arith, ⊎_elim}
 use Rattle.std.specs.Prelude.{filter}
 use Rattle.std.specs.List.{slice_split, onto_first, position_or_len, before_first, after_first}
@@ -26,7 +26,7 @@ blank_before x [] e = ap (λ part. filter is_filled (part ∷ [])) (trimmed-blan
 blank_before x (piece ∷ pieces) e =
     ap (λ part. filter is_filled (part ∷ map trimmed pieces)) (trimmed-blank x piece e)
 
--- a gap at the start holds no part
+-- a gap at the start contains no part
 pub parts_of-skipped : (bytes : List ℕ) → parts_of bytes ≡ parts_of (without_leading is_gap bytes)
 parts_of-skipped [] = refl
 parts_of-skipped (x ∷ xs) =
@@ -50,12 +50,12 @@ not-true : (b : Bool) → not b ≡ true → b ≡ false
 not-true true e = absurd (cc)
 not-true false e = refl
 
--- where nothing cuts, there is one piece
+-- without a separator, there is one piece
 uncut : (bytes : List ℕ) → length bytes ≤ position_or_len is_separator bytes → slice_split is_separator bytes ≡ bytes ∷ []
 uncut bytes i = slice_split_none is_separator bytes (All-from_get_or (λ x. is_separator x ≡ false) bytes 0 (λ k l.
     not-true (is_separator (get_or bytes k 0)) (prefix_len_passes (λ x. not (is_separator x)) bytes k 0 (omega (arith, l, i)))))
 
--- what stands before the first separator is the first piece, also where nothing cuts
+-- the text before the first separator is the first piece, even if there is no separator
 cut_off : (bytes : List ℕ) → parts_of bytes ≡ kept (before_first is_separator bytes ∷ slice_split is_separator (after_first is_separator bytes))
 cut_off bytes =
     ⊎_elim cuts whole (cases_lt (position_or_len is_separator bytes) (length bytes))
@@ -88,7 +88,7 @@ first_stays x xs e =
     let longer : 1 + position_or_len is_separator xs ≡ suc (position_or_len is_separator xs) = omega arith in
     ap (λ b. take (cond (not b) (1 + position_or_len is_separator xs) 0) (x ∷ xs)) e ∙ ap (λ k. take k (x ∷ xs)) longer
 
--- a text that begins with no gap begins with a part
+-- a text that starts without a gap starts with a part
 begins_part : (x : ℕ) (xs : List ℕ) → is_gap x ≡ false → parts_of (x ∷ xs) ≡ without_trailing is_blank (before_first is_separator (x ∷ xs)) ∷ parts_of (after_first is_separator (x ∷ xs))
 begins_part x xs e =
     let piece = take (position_or_len is_separator xs) xs in

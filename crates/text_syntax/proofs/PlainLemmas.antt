@@ -1,4 +1,4 @@
--- How far plain text goes.
+-- The length of plain text.
 use Rattle.std.proofs.Common.{◌≡◌, ℕ, suc, ◌+◌, ◌<◌, ◌≤◌, Bool, true, false, cond, List, [], ◌∷◌, length, drop, get_or, arith, refl, sym, ap, ◌∙◌, subst, drop-cons, ◌⊎◌, inl, inr, ◌-◌, take, length-drop}
 use Rattle.std.proofs.lemmas.List.{take_all}
 use Rattle.std.specs.Str.{IsCharBoundary, IsUtf8}

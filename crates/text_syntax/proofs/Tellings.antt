@@ -1,4 +1,4 @@
--- Breaches told one after another.
+-- Breaches reported in sequence.
 use Rattle.std.proofs.Common.{◌≡◌, ℕ, Bool, true, false, nat_lt, ◌+◌, ◌-◌, ◌<◌, ◌≤◌, Option, Some, List, [], ◌∷◌, ◌++◌, map, take, length, refl, sym, ap, ◌∙◌, append_assoc, append-nil, arith, length-append, zero, suc}
 use Rattle.std.specs.List.{flat_map, range_with_len}
 use Rattle.std.proofs.lemmas.Bool.{ltb-true, ltb-false}
@@ -7,7 +7,7 @@ use Rattle.std.proofs.lemmas.Grind.{flat_map-append}
 use Rattle.std.proofs.lemmas.List.{map-append, length-map, length-take, take_all}
 use Rattle.text_syntax.specs.Telling.{Telling, room, with_breaches, nothing_told}
 
--- the first of two lists, one after the other
+-- the first elements of two concatenated lists
 take_both : {X : Type 0} (r : ℕ) (xs ys : List X) → take r xs ++ take (r - length xs) ys ≡ take r (xs ++ ys)
 take_both zero xs ys =
     let none : 0 - length xs ≡ 0 = omega arith in
@@ -37,7 +37,7 @@ module _ {Breach : Type 0} where
       same t.most (t.told ++ map Some (take (room t) [])) t.told (t.more + (0 - room t)) t.more
       (ap (λ list. t.told ++ map Some list) (take_none (room t)) ∙ append-nil t.told) (omega arith)
 
-  -- some after others
+  -- some breaches after others
   pub with_both : (t : Telling Breach) (xs ys : List Breach) → with_breaches (with_breaches t xs) ys ≡ with_breaches t (xs ++ ys)
   unfolding with_breaches
   with_both t xs ys =
@@ -53,7 +53,7 @@ module _ {Breach : Type 0} where
       ∙ ap (λ list. t.told ++ map Some list) (take_both (room t) xs ys))
       (omega (arith, left, length-append xs ys))
 
-  -- one that is told, and one that is left out
+  -- a breach that is reported, and one that is only counted
   pub with_one_told : (t : Telling Breach) (breach : Breach) → length t.told < t.most
       → record t { told = t.told ++ Some breach ∷ [] } ≡ with_breaches t (breach ∷ [])
   unfolding with_breaches
@@ -72,7 +72,7 @@ module _ {Breach : Type 0} where
       (same t.most (t.told ++ map Some (take (room t) (breach ∷ []))) t.told (t.more + (1 - room t)) (t.more + 1)
       (ap (λ n. t.told ++ map Some (take n (breach ∷ []))) none ∙ append-nil t.told) (omega arith))
 
-  -- what is told of all, where nothing was told before
+  -- what is reported of all, if nothing was reported before
   pub told_of : (most : ℕ) (xs : List Breach) → (with_breaches (nothing_told most) xs).told ≡ map Some (take most xs)
   unfolding with_breaches
   told_of most xs = let all : most - 0 ≡ most = omega arith in ap (λ n. map Some (take n xs)) all
@@ -85,7 +85,7 @@ module _ {Breach : Type 0} where
   no_length [] e = refl
   no_length (x ∷ xs) e = absurd (omega arith)
 
-  -- where nothing is told and nothing left out, there was nothing, neither then nor before
+  -- if nothing is reported or counted, there was nothing, neither then nor before
   pub silent_parts : (t : Telling Breach) (xs : List Breach) → length (with_breaches t xs).told ≡ 0 → (with_breaches t xs).more ≡ 0 → (xs ≡ []) × (length t.told ≡ 0) × (t.more ≡ 0)
   unfolding with_breaches
   silent_parts t xs told more =
@@ -96,7 +96,7 @@ module _ {Breach : Type 0} where
   pub none_of : (most : ℕ) (xs : List Breach) → length (with_breaches (nothing_told most) xs).told ≡ 0 → (with_breaches (nothing_told most) xs).more ≡ 0 → xs ≡ []
   none_of most xs told more = (silent_parts (nothing_told most) xs told more).0
 
-  -- steps of telling, one after another
+  -- steps of reporting, in sequence
   pub after : (t u v : Telling Breach) (xs ys : List Breach) → u ≡ with_breaches t xs → v ≡ with_breaches u ys → v ≡ with_breaches t (xs ++ ys)
   after t u v xs ys e f = f ∙ ap (λ s. with_breaches s ys) e ∙ with_both t xs ys
 
@@ -104,7 +104,7 @@ module _ {Breach : Type 0} where
       → v ≡ with_breaches t (map f (xs ++ ys))
   after_map t u v f xs ys d e = after t u v (map f xs) (map f ys) d e ∙ ap (with_breaches t) (sym (map-append f xs ys))
 
--- a list of lists, one for each number, with one number more
+-- a list of lists, one for each number, with one more number
 range_more : (a n : ℕ) → range_with_len a (suc n) ≡ range_with_len a n ++ (a + n) ∷ []
 range_more a zero = let same : a ≡ a + 0 = omega arith in ap (λ k. k ∷ []) same
 range_more a (suc n) =
@@ -121,7 +121,7 @@ flat_map-range_more f n =
     ∙ ap (λ list. flat_map f (range_with_len 0 n) ++ list) (append-nil (f (0 + n)) ∙ ap f last)
 
 module _ {Breach : Type 0} where
-  -- one part of what is to be told is told
+  -- one part of what remains to be reported is reported
   pub pass : (t u : Telling Breach) (xs ys : List Breach) (whole : Telling Breach) → u ≡ with_breaches t xs → with_breaches t (xs ++ ys) ≡ whole
       → with_breaches u ys ≡ whole
   pass t u xs ys whole e rest = ap (λ s. with_breaches s ys) e ∙ with_both t xs ys ∙ rest
@@ -130,7 +130,7 @@ module _ {Breach : Type 0} where
       → with_breaches t (map f (xs ++ ys)) ≡ whole → with_breaches u (map f ys) ≡ whole
   pass_map t u f xs ys whole e rest = pass t u (map f xs) (map f ys) whole e (ap (with_breaches t) (sym (map-append f xs ys)) ∙ rest)
 
-  -- nothing more is to be told
+  -- nothing more remains to be reported
   pub all_told : (t whole : Telling Breach) → with_breaches t [] ≡ whole → t ≡ whole
   all_told t whole e = sym (with_none t) ∙ e
 

@@ -1,4 +1,4 @@
--- What `trim_start_matches` and `trim_end_matches` leave, where the pattern matches characters of ASCII by a test.
+-- What `trim_start_matches` and `trim_end_matches` leave, if the pattern is a test of ASCII characters.
 use Rattle.std.proofs.Common.{◌≡◌, ℕ, ◌+◌, ◌-◌, ◌<◌, Bool, true, false, List, [], ◌∷◌, ◌++◌, length, take, drop, get_or, sym, refl, ap, ◌∙◌, arith, Option, Some, None, subst}
 use Rattle.std.specs.Char.{IsScalar}
 use Rattle.std.proofs.Math.Utf8.{low_scalar}

@@ -1,8 +1,9 @@
--- Lists of the rules that a document breaks, in the order in which they are told. Which rules there are, each format says.
+-- Lists of the rules that a document breaks, in the order in which they are reported. Each format defines its own
+-- rules.
 use Rattle.std.specs.Prelude.{Bool, Option, Some, None, List, [], ◌∷◌, if◌then◌else◌}
 use Rattle.std.specs.List.{flat_map}
 
--- the breach, where the rule isn't kept
+-- the breach, if the rule is broken
 abbrev pub unless : {Breach : Type 0} → Bool → Breach → List Breach
 unless kept breach = if kept then [] else breach ∷ []
 

@@ -1,4 +1,4 @@
--- The key that more than one format gives a meaning.
+-- The key that more than one format defines.
 use Rattle.std.specs.Prelude.{ℕ, List, codes}
 
 abbrev pub hosts_key : List ℕ

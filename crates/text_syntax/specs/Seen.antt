@@ -1,4 +1,4 @@
--- What the parts that are lent say.
+-- The contents of borrowed parts.
 use Rattle.text_syntax.specs.Words as word
 use Rattle.text_syntax.specs.declared.part.Ref.{Ref}
 use Rattle.text_syntax.specs.declared.part.Ref.TheVariants as ref

@@ -8,12 +8,12 @@ pub record Entry : Type 0 where
   pub name : List ℕ
   pub value : Data
 
--- the entries in the order of their names, which a document's objects keep; each name stands once
+-- the entries in name order, as a document's objects store them; each name appears once
 abbrev pub entries : Members → List Entry
 entries no_members = []
 entries (member name value more) = record { name = name; value = value } ∷ entries more
 
--- the entries of an object, as they are kept; any other value has none
+-- the entries of an object, as stored; any other value has none
 abbrev pub members_in : Data → Members
 members_in (object members) = members
 members_in null = no_members
@@ -30,7 +30,7 @@ abbrev pub elements : Items → List Data
 elements no_items = []
 elements (item value more) = value ∷ elements more
 
--- the elements of a list; any other value is none
+-- the elements of a list; any other value has none
 abbrev pub elements_of : Data → Option (List Data)
 elements_of value = option_map elements (as_array value)
 
@@ -38,7 +38,7 @@ abbrev pub listed_by : Data → Option (List Data) → List Data
 listed_by value None = value ∷ []
 listed_by value (Some elements) = elements
 
--- the elements of a list; any other value stands for a list of itself alone
+-- the elements of a list; any other value counts as a list of one element
 abbrev pub listed : Data → List Data
 listed value = listed_by value (elements_of value)
 

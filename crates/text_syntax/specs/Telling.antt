@@ -1,7 +1,7 @@
 -- The first of many breaches, and how many more there are.
 use Rattle.std.specs.Prelude.{ℕ, ◌+◌, ◌-◌, Option, Some, List, [], ◌++◌, map, take, length}
 
--- at most so many are told
+-- at most `most` are reported
 pub record Telling (Breach : Type 0) : Type 0 where
   pub most : ℕ
   pub told : List (Option Breach)
@@ -10,11 +10,11 @@ pub record Telling (Breach : Type 0) : Type 0 where
 abbrev pub nothing_told : {Breach : Type 0} → ℕ → Telling Breach
 nothing_told most = record { most = most; told = []; more = 0 }
 
--- how many may still be told
+-- how many can still be reported
 abbrev pub room : {Breach : Type 0} → Telling Breach → ℕ
 room telling = telling.most - length telling.told
 
--- after these breaches
+-- the state after these breaches
 unfoldable pub with_breaches : {Breach : Type 0} → Telling Breach → List Breach → Telling Breach
 with_breaches telling breaches =
     record {

@@ -1,10 +1,10 @@
--- A host whose references are few, against which the definitions are read.
+-- A host with few references, on which the definitions are checked.
 use Rattle.std.specs.Prelude.{ℕ, Option, Some, None, List}
 use Rattle.group_tree.specs.Variables.{Scalar, Text}
 use Rattle.text_syntax.specs.Words.{whole, part, hostname}
 use Rattle.text_syntax.specs.Renders.{Values}
 
--- its own name, the same value for each other name, and no registered result
+-- its own name, the same value for every other name, and no registered result
 abbrev pub values_of : List ℕ → Option Scalar → Values
 values_of host value (whole name) = value
 values_of host value (part name field) = None

@@ -1,18 +1,18 @@
-//! Bytes: which of them part words and which may stand in a name, and what a text begins with.
+//! Classes of bytes, and the bytes that a string starts with.
 ghost use Rattle.std.specs.Prelude.{◌≡◌, ◌<◌, ◌≤◌, length, true};
 ghost use Rattle.text_syntax.specs.Words as spec;
 ghost use Rattle.text_syntax.specs.Words.{starts};
 
-/// Space, tab, line feed or carriage return.
+/// Returns whether the byte is a space, tab, line feed or carriage return.
 #[inline(always)]
 pub fn is_blank(byte: u8) -> bool
     ensures { result ≡ spec.is_blank byte }
 {
-    // Most bytes are told from blanks by this one comparison.
+    // This one comparison rules out most bytes.
     byte <= b' ' && matches!(byte, b' ' | b'\t' | b'\n' | b'\r')
 }
 
-/// A letter of ASCII or `_`.
+/// Returns whether the byte is an ASCII letter or `_`.
 #[inline(always)]
 pub fn is_letter(byte: u8) -> bool
     ensures { result ≡ spec.is_letter byte }
@@ -27,7 +27,7 @@ pub fn is_digit(byte: u8) -> bool
     matches!(byte, b'0'..=b'9')
 }
 
-/// A letter of ASCII, a digit or `_`.
+/// Returns whether the byte is an ASCII letter, a digit or `_`.
 #[inline(always)]
 pub fn is_name_byte(byte: u8) -> bool
     ensures { result ≡ spec.is_name_byte byte }
@@ -35,7 +35,7 @@ pub fn is_name_byte(byte: u8) -> bool
     is_letter(byte) || is_digit(byte)
 }
 
-/// Whether the bytes begin with these two.
+/// Returns whether the bytes start with these two.
 #[inline(always)]
 pub fn starts_with_pair(bytes: &[u8], first: u8, second: u8) -> bool
     requires some { 0 < first }
@@ -43,6 +43,6 @@ pub fn starts_with_pair(bytes: &[u8], first: u8, second: u8) -> bool
     ensures same { result ≡ starts first second bytes.now }
     ensures two { result ≡ true → 2 ≤ length bytes.now }
 {
-    // Most bytes are told from the first one, with no look at how many follow.
+    // The first byte rules out most strings, so their length is not needed.
     !bytes.is_empty() && bytes[0] == first && bytes.len() > 1 && bytes[1] == second
 }

@@ -1,15 +1,15 @@
-//! Whether a word may be rendered.
+//! Whether an argument can be rendered.
 ghost use Rattle.std.specs.Prelude.{◌≡◌, IsTrue, IsFalse, OnOk, OnErr};
 ghost use Rattle.text_syntax.specs.Words.{has_braces};
 
 use crate::part::Part;
 use crate::parts::first_word_part;
 
-/// An opening (`{{`, `{%` or `{#`) in a word begins no hole.
+/// An opening (`{{`, `{%` or `{#`) in an argument starts no placeholder.
 #[derive(Clone, Copy, Debug, PartialEq, Eq)]
 pub struct BadBraces;
 
-/// Refuses a word in which some opening begins no hole. It takes no memory.
+/// Rejects an argument in which some opening starts no placeholder. Does not allocate.
 pub fn check_word(word: &str) -> Result<(), BadBraces>
     ensures ok { OnOk result (IsFalse (has_braces word.now)) }
     ensures err { OnErr result (IsTrue (has_braces word.now)) }

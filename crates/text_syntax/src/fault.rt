@@ -1,13 +1,13 @@
-//! Why a word was not rendered.
+//! Why an argument was not rendered.
 
-/// In this order: of two that hold the one above is told.
+/// The variants are in order of precedence: if two apply, the one listed first is reported.
 #[derive(Clone, Copy, Debug, PartialEq, Eq)]
 pub enum RenderFault<'w> {
-    /// The first name in a hole that has no value: of `r.rc` it is `r`.
+    /// The first name in a placeholder that has no value: of `r.rc` it is `r`.
     Undefined { name: &'w str },
-    /// An opening (`{{`, `{%` or `{#`) begins no hole.
+    /// An opening (`{{`, `{%` or `{#`) starts no placeholder.
     BadBraces,
-    /// The rendered word is longer than `MAX_RENDERED` bytes.
+    /// The rendered argument is longer than `MAX_RENDERED` bytes.
     TooLong,
     Memory,
 }

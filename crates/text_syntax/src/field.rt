@@ -2,7 +2,7 @@
 ghost use Rattle.std.specs.Prelude.{◌≡◌};
 ghost use Rattle.text_syntax.specs.Words.{field_named};
 
-/// A field of a registered result: the return code is a number, the outputs are texts, the others truth values.
+/// A field of a registered result: the return code is an integer, the outputs are strings, the others booleans.
 #[derive(Clone, Copy, Debug, PartialEq, Eq)]
 pub enum Field {
     Rc,
@@ -14,7 +14,7 @@ pub enum Field {
 }
 
 impl Field {
-    /// The field of this name.
+    /// Returns the field with this name.
     #[tactic(auto, unfolding(crate::specs::Words::field_named))]
     pub fn named(word: &str) -> Option<Field>
         ensures { result ≡ field_named word.now }

@@ -1,4 +1,4 @@
-//! Holes: a reference between `{{` and `}}`.
+//! Placeholders: a reference between `{{` and `}}`.
 ghost use Rattle.std.specs.Prelude.{◌≡◌, option_map, MatchOption, None, Some};
 ghost use Rattle.text_syntax.specs.Words.{ref_in, behind_ref, hole_in, behind_hole};
 ghost use Rattle.text_syntax.specs.Words as spec;
@@ -9,7 +9,7 @@ use crate::name::is_name;
 use crate::part::Ref;
 use crate::runs::{behind_dot, behind_pair, cut_word};
 
-/// The hole that the text begins with, and what is behind it.
+/// Returns the reference of the placeholder that the text starts with, and the text after it.
 pub(crate) fn cut_hole(text: &str) -> Option<(Ref<'_>, &str)>
     ensures { MatchOption result (hole_in text.now ≡ None)
         (λ (of, rest). (hole_in text.now ≡ Some (ref_said of)) × (rest.now ≡ behind_hole text.now)) }

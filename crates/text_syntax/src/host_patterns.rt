@@ -1,14 +1,13 @@
-//! From a pattern of hosts to its parts.
+//! From a host pattern to its parts.
 ghost use Rattle.std.specs.Prelude.{◌≡◌, ◌<◌, [], ◌∷◌, length, IfNone, IfSome};
 ghost use Rattle.std.specs.List.{before_first, after_first};
 ghost use Rattle.text_syntax.specs.Words as words;
 ghost use Rattle.text_syntax.specs.Patterns.{parts_of, without_leading, without_trailing};
 ghost use Rattle.text_syntax.specs.Patterns as spec;
 
-/// The first part of the pattern, and the rest of the pattern behind it; `None` where the pattern has no part. `:` and
-/// `,` stand between parts, blanks (space, tab, line feed, carriage return) at both ends of a part don't count, and a
-/// part of which nothing is left is passed over. It takes no memory. To walk over all parts, go on with the rest, which
-/// is shorter each time.
+/// Returns the first part of the pattern and the pattern after it, or `None` if the pattern has no part. `:` and `,`
+/// separate parts. Whitespace (space, tab, line feed, carriage return) at both ends of a part is ignored, and empty
+/// parts are skipped. Does not allocate. To visit all parts, call it again on the rest, which gets shorter each time.
 #[tactic(auto, using(crate::proofs::PatternLemmas::no_part, crate::proofs::PatternLemmas::first_part_is))]
 pub fn first_part(pattern: &str) -> Option<(&str, &str)>
     ensures none { IfNone result (parts_of pattern.now ≡ []) }
@@ -23,14 +22,14 @@ pub fn first_part(pattern: &str) -> Option<(&str, &str)>
     Some((trim_end(piece), rest))
 }
 
-// The text without the separators and blanks before its first part.
+// Returns the text without the separators and whitespace before its first part.
 fn skip_gap(text: &str) -> &str
     ensures { result.now ≡ without_leading spec.is_gap text.now }
 {
     text.trim_start_matches(is_gap)
 }
 
-// What stands before the first separator, and what stands behind it.
+// Returns the text before the first separator and the text after it.
 fn cut_at_separator(text: &str) -> (&str, &str)
     ensures before { result.0.now ≡ before_first spec.is_separator text.now }
     ensures after { result.1.now ≡ after_first spec.is_separator text.now }

@@ -7,7 +7,7 @@ ghost use Rattle.text_syntax.specs.Shapes as spec;
 use serde_json::{Map, Value};
 use std::slice;
 
-/// The entries of a value that is an object.
+/// Returns the entries of an object, or `None` for any other value.
 pub fn entries_of(value: &Value) -> Option<&Map<String, Value>>
     ensures entries { MatchOption result (spec.members_in (view value.now) ≡ no_members)
         (λ object. members_view object.now.entries ≡ spec.members_in (view value.now)) }
@@ -16,7 +16,7 @@ pub fn entries_of(value: &Value) -> Option<&Map<String, Value>>
     value.as_object()
 }
 
-/// The elements of a value that is a list.
+/// Returns the elements of a list, or `None` for any other value.
 pub fn elements_of(value: &Value) -> Option<&[Value]>
     ensures { option_map (λ list. map view list.now) result ≡ spec.elements_of (view value.now) }
 {
@@ -26,7 +26,7 @@ pub fn elements_of(value: &Value) -> Option<&[Value]>
     }
 }
 
-/// The elements of a list; any other value stands for a list of itself alone.
+/// Returns the elements of a list; any other value counts as a list of one element.
 pub fn listed(value: &Value) -> &[Value]
     ensures { map view result.now ≡ spec.listed (view value.now) }
 {

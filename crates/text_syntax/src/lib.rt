@@ -1,4 +1,5 @@
-//! The parts of texts: classes of bytes, words with holes and what fills them, patterns of hosts, parts of a JSON value.
+//! The parts of strings: classes of bytes, arguments with placeholders and their values, host patterns, and parts of
+//! a JSON value.
 #![tactic(auto)]
 
 mod bytes;

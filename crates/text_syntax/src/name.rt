@@ -5,8 +5,8 @@ ghost use Rattle.text_syntax.specs.Words as spec;
 
 use crate::bytes::{is_letter, is_name_byte};
 
-/// Whether a word may name a variable or a registered result: it is a letter or `_`, then letters, digits and `_`, and no
-/// reserved word.
+/// Returns whether a word can name a variable or a registered result. Such a name is a letter or `_`, then letters,
+/// digits and `_`, and is not a reserved word.
 #[tactic(auto, unfolding(crate::specs::Words::is_name))]
 pub fn is_name(word: &str) -> bool
     ensures { result ≡ spec.is_name word.now }

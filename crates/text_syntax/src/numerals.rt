@@ -1,4 +1,4 @@
-//! Numbers, as numbers of JSON and as texts.
+//! Numbers, as JSON numbers and as strings.
 ghost use Rattle.std.specs.Prelude.{◌≡◌, ◌≤◌, IfSome, option_and_then};
 ghost use Rattle.std.specs.List.{list_all};
 ghost use Rattle.std.specs.Char.{is_ascii_digit};
@@ -7,7 +7,7 @@ ghost use Rattle.text_syntax.specs.Numerals as spec;
 
 use serde_json::Value;
 
-/// The whole number from 0 to `most` that a value is.
+/// Returns the integer from 0 to `most` that a value is.
 pub fn whole_number(value: &Value, most: u16) -> Option<u16>
     ensures number { result ≡ spec.whole_number most (view value.now) }
     ensures small { IfSome result (λ number. number ≤ most) }
@@ -29,7 +29,7 @@ fn within(number: u64, most: u16) -> Option<u16>
     }
 }
 
-/// The number that a text writes in ASCII digits, where it has 1 to `digits` of them and the number is at most `most`.
+/// Returns the number that a string of 1 to `digits` ASCII digits contains, if it is at most `most`.
 pub fn number_in_digits(text: &str, digits: usize, most: u16) -> Option<u16>
     ensures number { result ≡ spec.number_in_digits digits most text.now }
     ensures small { IfSome result (λ number. number ≤ most) }
@@ -49,7 +49,7 @@ fn are_ascii_digits(bytes: &[u8]) -> bool
     bytes.iter().all(|byte| byte.is_ascii_digit())
 }
 
-/// What a text `p%` says, p having 1 to 3 ASCII digits and being at most 100.
+/// Returns p for a string `p%`, in which p has 1 to 3 ASCII digits and is at most 100.
 pub fn percentage_in(text: &str) -> Option<u16>
     ensures share { result ≡ spec.percentage_in text.now }
     ensures small { IfSome result (λ share. share ≤ 100) }

@@ -1,8 +1,7 @@
-//! What a word falls into.
+//! The parts of an argument.
 use crate::field::Field;
 
-/// What a hole stands for: a name's value, a field of the result that is registered under a name, or the host's own
-/// name.
+/// What a placeholder refers to: a name's value, a field of a registered result, or the host's own name.
 #[derive(Clone, Copy, Debug, PartialEq, Eq)]
 pub enum Ref<'w> {
     Whole(&'w str),
@@ -10,7 +9,7 @@ pub enum Ref<'w> {
     Hostname,
 }
 
-/// Plain text, a hole, or an opening (`{{`, `{%` or `{#`) that begins no hole.
+/// Plain text, a placeholder, or an opening (`{{`, `{%` or `{#`) that starts no placeholder.
 #[derive(Clone, Copy, Debug, PartialEq, Eq)]
 pub enum Part<'w> {
     Plain(&'w str),

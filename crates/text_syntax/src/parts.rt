@@ -1,4 +1,4 @@
-//! From a word to its parts.
+//! From an argument to its parts.
 ghost use Rattle.std.specs.Prelude.{◌≡◌, ◌<◌, [], ◌∷◌, length, take, drop, MatchOption, IfSome};
 ghost use Rattle.text_syntax.specs.Words.{parts_of, plain_length, part_in, behind_part};
 ghost use Rattle.text_syntax.specs.Words as spec;
@@ -8,8 +8,8 @@ use crate::bytes::starts_with_pair;
 use crate::hole::cut_hole;
 use crate::part::Part;
 
-/// The first part of the word, and the rest of the word behind it; `None` where the word is empty. It takes no memory.
-/// To walk over all parts, go on with the rest, which is shorter each time.
+/// Returns the first part of the argument and the text after it, or `None` if the argument is empty. Does not
+/// allocate. To visit all parts, call it again on the rest, which gets shorter each time.
 pub fn first_word_part(word: &str) -> Option<(Part<'_>, &str)>
     ensures parts { MatchOption result (parts_of word.now ≡ [])
         (λ (part, rest). parts_of word.now ≡ said part ∷ parts_of rest.now) }
@@ -44,7 +44,7 @@ fn is_opening(bytes: &[u8]) -> bool
         || starts_with_pair(bytes, b'{', b'#')
 }
 
-// The text before the first opening.
+// Splits the argument before its first opening.
 fn cut_plain(word: &str) -> (&str, &str)
     ensures plain { result.0.now ≡ take (plain_length word.now) word.now }
     ensures rest { result.1.now ≡ drop (plain_length word.now) word.now }

@@ -1,4 +1,4 @@
-//! The text of one part.
+//! What one part renders to.
 ghost use Rattle.std.specs.Prelude.{◌≡◌, option_map};
 ghost use Rattle.group_tree.specs.Scalars as scalars;
 ghost use Rattle.text_syntax.specs.Words.{name_of};
@@ -11,7 +11,7 @@ use crate::values::Values;
 use group_tree::Scalar;
 use itoa::Buffer;
 
-/// What stands in the part's place; the buffer holds the digits of a number.
+/// Returns the text that replaces the part; the buffer holds the digits of a number.
 pub(crate) fn part_text<'t, V: Values>(
     values: &'t V,
     part: Part<'t>,
@@ -40,7 +40,7 @@ fn printed<'t>(scalar: Scalar<'t>, buffer: &'t mut Buffer) -> &'t str
     }
 }
 
-/// The name in a hole that has no value.
+/// Returns the name in a placeholder that has no value.
 pub(crate) fn undefined_in<'w, V: Values>(values: &V, part: Part<'w>) -> Option<&'w str>
     ensures { option_map (λ name. name.now) result
         ≡ spec.undefined_in (V.values values.now) (seen.said part.entry) }

@@ -1,4 +1,4 @@
-//! From a word to the text that it renders to.
+//! From an argument to the string that it renders to.
 ghost use Rattle.std.specs.Prelude.{◌≡◌, ◌<◌, ◌≤◌, option_map, string_bytes, length, IfOk, IfErr, MatchOption};
 ghost use Rattle.text_syntax.specs.Words.{parts_of};
 ghost use Rattle.text_syntax.specs.Renders as spec;
@@ -13,11 +13,11 @@ use crate::values::Values;
 use itoa::Buffer;
 use std::alloc::{AllocError, Allocator};
 
-/// The longest rendered word, in bytes.
+/// The longest rendered argument, in bytes.
 pub const MAX_RENDERED: usize = 65536;
 
-/// The word with the values in the places of its holes. It takes memory once, for the whole text, and only where the
-/// word is found to be without fault.
+/// Returns the argument with its placeholders replaced by their values. It allocates once, for the complete string,
+/// and only after it has found no error.
 pub fn render<'w, V: Values, A: Allocator>(
     alloc: A,
     values: &V,
@@ -52,7 +52,7 @@ fn first_undefined<'w, V: Values>(values: &V, word: &'w str) -> Option<&'w str>
     None
 }
 
-// How long the text is, where it is not too long.
+// Returns the length of the rendered string, if it is not too long.
 fn rendered_length<V: Values>(values: &V, word: &str) -> Option<usize>
     ensures { MatchOption result (max_rendered < length (rendered (V.values values.now) word.now))
         (λ bytes. (bytes ≡ length (rendered (V.values values.now) word.now)) × (bytes ≤ max_rendered)) }

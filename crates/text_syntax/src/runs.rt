@@ -1,4 +1,4 @@
-//! Runs of bytes at the start of a text.
+//! Runs of bytes at the start of a string.
 ghost use Rattle.std.specs.Prelude.{◌≡◌, ◌<◌, drop, true, false, slice_index, MatchOption, ◌==◌};
 ghost use Rattle.std.specs.List.{prefix_len, take_while};
 ghost use Rattle.text_syntax.specs.Words as spec;
@@ -6,7 +6,8 @@ ghost use Rattle.text_syntax.specs.Words.{word_in, behind_word, starts};
 
 use crate::bytes::{is_blank, is_name_byte, starts_with_pair};
 
-/// The longest run of letters, digits and `_` behind blanks, and what is behind it and the blanks after it.
+/// Returns the longest run of letters, digits and `_` after leading whitespace, and the text after it and its
+/// trailing whitespace.
 #[tactic(auto, unfolding(crate::specs::Words::behind_word))]
 pub(crate) fn cut_word(text: &str) -> (&str, &str)
     ensures word { result.0.now ≡ word_in text.now }
@@ -16,7 +17,7 @@ pub(crate) fn cut_word(text: &str) -> (&str, &str)
     (word, without_blanks(rest))
 }
 
-/// The text without the blanks at its start.
+/// Returns the text without its leading whitespace.
 pub fn without_blanks(text: &str) -> &str
     ensures { result.now ≡ spec.without_blanks text.now }
 {
@@ -42,7 +43,7 @@ fn count_name_bytes(bytes: &[u8]) -> usize
     bytes.iter().take_while(|byte| is_name_byte(**byte)).count()
 }
 
-/// What is behind a dot.
+/// Returns the text after a leading dot.
 pub(crate) fn behind_dot(text: &str) -> Option<&str>
     ensures { MatchOption result (slice_index text.now 0 == 46 ≡ false)
         (λ rest. (slice_index text.now 0 == 46 ≡ true) × (rest.now ≡ drop 1 text.now)) }
@@ -54,7 +55,7 @@ pub(crate) fn behind_dot(text: &str) -> Option<&str>
     }
 }
 
-/// What is behind these two bytes.
+/// Returns the text after these two leading bytes.
 pub(crate) fn behind_pair(text: &str, first: u8, second: u8) -> Option<&str>
     requires some { 0 < first }
     requires ascii { first < 128 }

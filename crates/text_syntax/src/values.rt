@@ -1,4 +1,4 @@
-//! What the holes of a word may stand for.
+//! What the placeholders of an argument can refer to.
 ghost use Rattle.std.specs.Prelude.{◌≡◌, option_map};
 ghost use Rattle.group_tree.specs.Scalars.{lent_scalar};
 ghost use Rattle.text_syntax.specs.Seen.{ref_said};

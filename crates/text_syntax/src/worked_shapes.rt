@@ -1,4 +1,4 @@
-//! The definitions, read against small texts: each clause computes.
+//! The definitions, checked on small strings: each clause computes.
 ghost use Rattle.std.specs.Prelude.{◌≡◌, Some, None, codes};
 ghost use Rattle.text_syntax.specs.Numerals.{number_in_digits, percentage_in};
 

@@ -1,11 +1,11 @@
-//! The definition, read against small words: each clause computes.
+//! The definition, checked on small arguments: each clause computes.
 #![tactic(auto, unfolding(crate::specs::Words::parts_of, crate::specs::Words::first_parts, crate::specs::Words::part_in, crate::specs::Words::behind_part, crate::specs::Words::plain_length, crate::specs::Words::ref_in, crate::specs::Words::behind_ref, crate::specs::Words::behind_word, crate::specs::Words::is_name, crate::specs::Words::field_named))]
 
 ghost use Rattle.std.specs.Prelude.{◌≡◌, IsTrue, IsFalse, [], ◌∷◌, ◌++◌, codes};
 ghost use Rattle.text_syntax.specs.Words.{parts_of, has_braces, plain, hole, braces, whole, part, hostname, Part};
 ghost use Rattle.text_syntax.specs.declared.field.Field.TheVariants.{Rc};
 
-/// Text, and a name, the host's own name or a field between braces; blanks may stand round each of them.
+/// Plain text, and a name, the host's own name or a field between braces; whitespace can surround each of them.
 fn holes_stand_for_references()
     ensures nothing { parts_of [] ≡ [] }
     ensures text { parts_of (codes "echo }} a{b") ≡ plain (codes "echo }} a{b") ∷ [] }
@@ -18,7 +18,7 @@ fn holes_stand_for_references()
     ensures lone { parts_of (codes "{{v}}}") ≡ hole (whole (codes "v")) ∷ plain (codes "}") ∷ [] }
 {}
 
-/// An opening that begins no hole is two bytes of bad braces, and what follows it is read on its own.
+/// An opening that starts no placeholder is two bytes of bad braces, and the text after it is read on its own.
 fn other_openings_are_braces()
     ensures filter { parts_of (codes "{{ v | x }}") ≡ braces ∷ plain (codes " v | x }}") ∷ [] }
     ensures statement { parts_of (codes "a{%") ≡ plain (codes "a") ∷ braces ∷ [] }

@@ -1,4 +1,4 @@
--- What a change of one pass does to the sums over all passes.
+-- How changing one pass changes the sums over all passes.
 use Rattle.std.proofs.Common.{◌≡◌, ℕ, zero, suc, ◌+◌, ◌≤◌, All, List, [], ◌∷◌, set, flat_map, sum_by, sym, ap, refl, arith}
 use mathlib.Core.Option.{some, some-injective, some-ne-none}
 use lib.ListN.{get_elem?}
@@ -6,7 +6,7 @@ use Rattle.std.proofs.lemmas.List.Elements.{All-head, All-tail}
 use Rattle.std.proofs.lemmas.List.Sums.{sum_by-cons, sum_by-append}
 
 module _ {X : Type 0} where
-  -- what was written to a place stands there
+  -- an item that was written to an index can be read there
   pub there_again : (xs : List X) (n : ℕ) (x y : X) → get_elem? xs n ≡ some x → get_elem? (set xs n y) n ≡ some y
   there_again [] n x y at = absurd (some-ne-none x (sym at))
   there_again (z ∷ zs) zero x y at = refl
@@ -27,7 +27,7 @@ module _ {X : Type 0} where
   one_of f (y ∷ ys) zero x at = omega (arith, sum_by-cons f y ys, ap f (some-injective y x at))
   one_of f (y ∷ ys) (suc n) x at = omega (arith, sum_by-cons f y ys, one_of f ys n x at)
 
-  -- where all shares together are at most `few`, nothing weighs that has to have more than so many to weigh
+  -- if all shares together are at most `few`, all weights are zero, since a weight needs a larger share
   pub too_few : (f share : X → ℕ) (few : ℕ) (xs : List X) → All (λ x. share x ≤ few → f x ≡ 0) xs → sum_by share xs ≤ few → sum_by f xs ≡ 0
   too_few f share few [] light within = refl
   too_few f share few (x ∷ xs) light within =
@@ -35,7 +35,7 @@ module _ {X : Type 0} where
       let there = too_few f share few xs (All-tail (λ x. share x ≤ few → f x ≡ 0) x xs light) (omega (arith, sum_by-cons share x xs)) in
       omega (arith, sum_by-cons f x xs, here, there)
 
-  -- where one leaves at most so many shares to the others, they weigh nothing
+  -- if one leaves at most `few` shares to the others, the others weigh nothing
   pub alone : (f share : X → ℕ) (few : ℕ) (xs : List X) (n : ℕ) (x : X) → All (λ x. share x ≤ few → f x ≡ 0) xs → get_elem? xs n ≡ some x
       → sum_by share xs ≤ share x + few → sum_by f xs ≡ f x
   alone f share few [] n x light at within = absurd (some-ne-none x (sym at))
@@ -49,7 +49,7 @@ module _ {X : Type 0} where
       let there = alone f share few ys n x (All-tail (λ x. share x ≤ few → f x ≡ 0) y ys light) at (omega (arith, sum_by-cons share y ys)) in
       omega (arith, sum_by-cons f y ys, here, there)
 
-  -- the weight of lists joined end to end
+  -- the weight of concatenated lists
   pub weight_joined : {Y : Type 0} (weight : Y → ℕ) (part : X → List Y) (xs : List X) → sum_by weight (flat_map part xs) ≡ sum_by (λ x. sum_by weight (part x)) xs
   weight_joined weight part [] = refl
   weight_joined weight part (x ∷ xs) =

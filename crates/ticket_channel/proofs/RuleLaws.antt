@@ -8,7 +8,7 @@ use Rattle.ticket_channel.specs.Hands.{put_by_all, taken_by_all}
 use Rattle.ticket_channel.specs.Laws.{OnceOrLeft, TakenWerePut, NumbersAgree}
 
 module _ {T : Type 0} where
-  -- how many there are, as a sum
+  -- the length as a sum
   ones : (tickets : List T) → sum_by (λ ticket. 1) tickets ≡ length tickets
   ones [] = refl
   ones (ticket ∷ tickets) = omega (arith, sum_by-cons (λ (ticket : T). 1) ticket tickets, ones tickets)

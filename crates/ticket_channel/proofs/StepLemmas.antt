@@ -1,4 +1,4 @@
--- Each step keeps the rule of the line.
+-- Each step preserves the rule of the channel.
 use Rattle.std.proofs.Common.{◌≡◌, ℕ, ◌+◌, ◌-◌, ◌<◌, ◌≤◌, List, [], ◌∷◌, ◌++◌, set, sum_by, ap, refl, arith}
 use mathlib.Core.Option.{some}
 use lib.ListN.{get_elem?}
@@ -13,7 +13,7 @@ module _ {T : Type 0} where
   abbrev parts_of : PassView T → ℕ
   parts_of h = h.parts
 
-  -- what the tickets weigh that were put with a pass, and those that were taken
+  -- the weights of the tickets that were put with a pass, and of those that were taken
   abbrev put_weight : (T → ℕ) → PassView T → ℕ
   put_weight weight h = sum_by weight h.put
 
@@ -26,7 +26,7 @@ module _ {T : Type 0} where
   all_taken : (weight : T → ℕ) (hands : List (PassView T)) → sum_by weight (taken_by_all hands) ≡ sum_by (taken_weight weight) hands
   all_taken weight hands = weight_joined weight (λ (h : PassView T). h.taken) hands
 
-  -- the rule's equation, by weights
+  -- the rule's equation, as weights
   abbrev Balance : (T → ℕ) → List T → List (PassView T) → Type 0
   Balance weight left hands = sum_by (put_weight weight) hands ≡ sum_by (taken_weight weight) hands + sum_by weight left
 
@@ -69,7 +69,7 @@ module _ {T : Type 0} where
         refl,
       )
 
-  -- with a pass that puts nothing more
+  -- a pass that puts no more takes a ticket
   taken_one : (n : ℕ) (before : PassView T) (ticket : T) (left : List T) (hands : List (PassView T)) → (before.parts ≤ half → before.put ≡ []) → 0 < before.parts
       → EachOnce (ticket ∷ left) hands → get_elem? hands n ≡ some before → EachOnce left (set hands n (hand before.parts before.put (before.taken ++ ticket ∷ [])))
   taken_one n before ticket left hands alone_puts part kept at =
@@ -93,7 +93,7 @@ module _ {T : Type 0} where
   takes n before nothing part ticket left hands kept at =
       (hand before.parts before.put (before.taken ++ ticket ∷ []), taken_one n before ticket left hands (λ few. nothing) part kept at, refl)
 
-  -- what the pass with most parts put is all that was put
+  -- the pass with most parts has put everything that was put
   all_its_own : (weight : T → ℕ) (n : ℕ) (mine : PassView T) (left : List T) (hands : List (PassView T)) → half < mine.parts
       → EachOnce left hands → get_elem? hands n ≡ some mine → sum_by (put_weight weight) hands ≡ put_weight weight mine
   all_its_own weight n mine left hands most kept at =

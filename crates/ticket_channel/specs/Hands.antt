@@ -1,8 +1,8 @@
--- What the passes of a line of tickets know, and the rule of the line.
+-- What the passes of a ticket channel know, and the rule of the channel.
 use Rattle.std.specs.Prelude.{◌≡◌, ℕ, ◌+◌, ◌^◌, ◌≤◌, List, [], ◌++◌, All, flat_map, sum_by}
 use Rattle.ticket_channel.specs.declared.pass_view.PassView.{PassView}
 
--- the right to know the whole has twice as many parts; each end that takes has one of them, and the end that puts has the others
+-- half of the parts of the right to know everything; each receiving end has one part, and the sending end has the others
 abbrev pub half : ℕ
 half = 2 ^ 64
 
@@ -14,15 +14,15 @@ module _ {T : Type 0} where
   abbrev pub put_by_all : List (PassView T) → List T
   put_by_all hands = flat_map (λ hand. hand.put) hands
 
-  -- the tickets that were taken with them
+  -- the tickets that were taken with these passes
   abbrev pub taken_by_all : List (PassView T) → List T
   taken_by_all hands = flat_map (λ hand. hand.taken) hands
 
-  -- the same tickets, each as often: they weigh the same, whatever each weighs
+  -- the same tickets, each as often: the sums agree for all weights
   abbrev pub SameTickets : List T → List T → Type 0
   SameTickets some others = (weight : T → ℕ) → sum_by weight some ≡ sum_by weight others
 
-  -- no ticket is more often among some than among the others
+  -- no ticket is more frequent among `some` than among `others`
   abbrev pub AreAmong : List T → List T → Type 0
   AreAmong some others = (weight : T → ℕ) → sum_by weight some ≤ sum_by weight others
 

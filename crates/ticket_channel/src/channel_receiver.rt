@@ -1,4 +1,4 @@
-//! An end of a line that takes tickets.
+//! The receiving end of a ticket channel.
 ghost use Rattle.std.specs.Prelude.{◌≡◌, ◌++◌, [], ◌∷◌, IfSome, IfNone, length};
 ghost use Rattle.ticket_channel.specs.Ends.{TakeView};
 
@@ -9,7 +9,7 @@ use crossbeam_channel::{Pass, RuledReceiver};
 use std::marker::Model;
 use std::sync::Wait;
 
-/// An end of a line that takes tickets, for one worker.
+/// The receiving end of a ticket channel, for one worker.
 #[derive(Drop)]
 pub struct ChannelReceiver<T: Drop> {
     pub(crate) receiver: RuledReceiver<T, PassView<T>, TakenOnce>,
@@ -32,7 +32,7 @@ impl<T: Drop> Model for ChannelReceiver<T> {
 }
 
 impl<T: Drop> ChannelReceiver<T> {
-    /// Takes the next ticket, and waits for one while there is none. None is told where none can come any more.
+    /// Takes the next ticket, and waits for one if there is none. Returns `None` if no ticket can come any more.
     pub fn take<R: Wait>(&mut self, rt: &R) -> Option<T>
         ensures some { IfSome result (λ ticket. self.new ≡ record self.old { taken = self.old.taken ++ ticket ∷ [] }) }
         ensures none { IfNone result (self.new ≡ self.old) }
@@ -43,14 +43,14 @@ impl<T: Drop> ChannelReceiver<T> {
         Some(ticket)
     }
 
-    /// How many tickets this end took.
+    /// Returns how many tickets this end has taken.
     pub fn taken(&self) -> u64
         ensures { result ≡ length self.now.taken }
     {
         self.count
     }
 
-    /// How many tickets this end took, and which they were. It takes no more.
+    /// Returns how many tickets this end has taken, and which. It takes no more.
     pub fn finish(self) -> (u64, Taken<T>)
         ensures number { result.0 ≡ length result.1.taken }
         ensures tickets { result.1 ≡ self }

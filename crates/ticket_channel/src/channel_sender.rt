@@ -1,4 +1,4 @@
-//! The end of a line that puts tickets.
+//! The sending end of a ticket channel.
 ghost use Rattle.std.specs.Prelude.{◌≡◌, ◌+◌, ◌-◌, ◌++◌, ◌<◌, ◌^◌, [], ◌∷◌, true, false, IfOk, IfErr, IfSome, IfNone, OnOk, OnErr};
 ghost use Rattle.ticket_channel.specs.Hands.{AreAmong, SameTickets};
 ghost use Rattle.ticket_channel.specs.Ends.{PutView, new_put, new_take};
@@ -11,16 +11,16 @@ use std::alloc::{AllocError, Global};
 use std::marker::Model;
 use std::sync::Wait;
 
-/// The end of a line that puts tickets, and may take back what is left. Once it is dropped the takers see the end, as soon as no ticket
-/// is left.
+/// The sending end of a ticket channel, which can also take back what is left. Once it is dropped, the receivers see the end as soon as no
+/// ticket is left.
 #[derive(Drop)]
 pub struct ChannelSender<T: Drop> {
     sender: RuledSender<T, PassView<T>, TakenOnce>,
     receiver: RuledReceiver<T, PassView<T>, TakenOnce>,
     pass: Pass<T, PassView<T>>,
-    /// How many of the ends that take are out.
+    /// How many receiving ends are out.
     takers: usize,
-    /// This end has found no ticket since it put one last.
+    /// This end has found no ticket since it last put one.
     emptied: bool,
 }
 
@@ -40,7 +40,7 @@ impl<T: Drop> Model for ChannelSender<T> {
 }
 
 impl<T: Drop> ChannelSender<T> {
-    /// The end of a line with room for so many tickets, of which no taker has an end yet.
+    /// Returns the sending end of a channel with this capacity, which has no receiving end yet.
     pub(crate) fn new(alloc: Global, room: usize) -> Result<ChannelSender<T>, AllocError>
         requires { 0 < room }
         ensures { IfOk result (λ end. end ≡ new_put end.line room 0) }
@@ -57,7 +57,7 @@ impl<T: Drop> ChannelSender<T> {
         })
     }
 
-    /// Puts a ticket. One that can't go is handed back, and nothing has changed: it can't where as many are left as there is room for.
+    /// Puts a ticket. If the channel is full, returns the ticket and changes nothing.
     pub fn put<R: Wait>(&mut self, rt: &R, ticket: T) -> Result<(), T>
         ensures ok { OnOk result (self.new ≡ record self.old { put = self.old.put ++ ticket ∷ []; emptied = false }) }
         ensures err { IfErr result (λ back. (back ≡ ticket) × (self.new ≡ self.old)) }
@@ -74,8 +74,8 @@ impl<T: Drop> ChannelSender<T> {
         }
     }
 
-    /// Takes back the first ticket that is left. None is told where none is: if no taker's end is out any more, then each ticket that was
-    /// put was taken once, by this end or by one that came back to it.
+    /// Takes back the first ticket that is left. Returns `None` if there is none. If no receiving end is out then, each ticket that was put
+    /// was taken once, by this end or by one that returned to it.
     pub fn take_back<R: Wait>(&mut self, rt: &R) -> Option<T>
         ensures some { IfSome result (λ ticket. self.new ≡ record self.old { taken = self.old.taken ++ ticket ∷ [] }) }
         ensures among { IfSome result (λ ticket. AreAmong self.new.taken self.new.put) }
@@ -91,7 +91,7 @@ impl<T: Drop> ChannelSender<T> {
         }
     }
 
-    /// An end for one taker more.
+    /// Returns one more receiving end.
     pub(crate) fn admit(&mut self) -> Result<ChannelReceiver<T>, AllocError>
         requires { self.old.takers + 1 < 2 ^ 64 }
         ensures ok { OnOk result (self.new ≡ record self.old { takers = self.old.takers + 1 }) }
@@ -108,7 +108,7 @@ impl<T: Drop> ChannelSender<T> {
         })
     }
 
-    /// A taker is done: what it took is known here.
+    /// Takes a receiving end back, and records here what it took.
     pub fn gather(&mut self, end: ChannelReceiver<T>)
         requires line { end.line ≡ self.old.line }
         requires some { 0 < self.old.takers }

@@ -1,4 +1,4 @@
-//! What follows from the rule of a line, over all passes, at each moment.
+//! Consequences of the channel's rule, over all passes, at every point in time.
 ghost use Rattle.ticket_channel.specs.Laws.{NumbersAgree, OnceOrLeft, TakenWerePut};
 
 /// A ticket that was put once was taken once or is left.
@@ -7,13 +7,13 @@ pub fn each_ticket_once<T>()
     ensures { OnceOrLeft T }
 {}
 
-/// Nothing was taken that was not put.
+/// No ticket was taken that was not put.
 #[tactic(auto, using(crate::proofs::RuleLaws::taken_were_put))]
 pub fn none_is_made_up<T>()
     ensures { TakenWerePut T }
 {}
 
-/// The numbers that the takers tell, and of what is left, add up to that of the tickets put.
+/// The number of tickets put equals the number left plus the numbers the receivers report.
 #[tactic(auto, using(crate::proofs::RuleLaws::numbers_agree))]
 pub fn numbers_agree<T>()
     ensures { NumbersAgree T }

@@ -1,4 +1,4 @@
-//! A line of tickets from one thread to many: each ticket that is put is taken once, or is left.
+//! A channel of tickets from one thread to many: each ticket that is put is taken once, or is left.
 #![tactic(auto)]
 
 mod channel_receiver;

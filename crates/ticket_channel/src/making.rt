@@ -1,4 +1,4 @@
-//! Making a line.
+//! Making a channel.
 ghost use Rattle.std.specs.Prelude.{◌≡◌, ◌<◌, All, IfOk, vec_len};
 ghost use Rattle.ticket_channel.specs.Ends.{new_put, new_take};
 
@@ -6,7 +6,7 @@ use crate::channel_receiver::ChannelReceiver;
 use crate::channel_sender::ChannelSender;
 use std::alloc::{AllocError, Global};
 
-/// The ends of a line with room for so many tickets, one to put and so many to take. All memory that the line needs is taken here.
+/// Returns the ends of a channel of capacity `room`: one sender and `takers` receivers. Allocates all memory that the channel needs.
 pub fn line<T: Drop>(
     alloc: Global,
     room: usize,

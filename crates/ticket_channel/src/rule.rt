@@ -1,4 +1,4 @@
-//! The rule of a line, and its steps.
+//! The rule of a channel, and its steps.
 ghost use Rattle.std.specs.Prelude.{◌≡◌, ◌-◌, ◌+◌, ◌++◌, [], ◌∷◌, ⊤};
 ghost use Rattle.ticket_channel.specs.Hands.{AreAmong, EachOnce, SameTickets, half, hand};
 
@@ -14,7 +14,7 @@ impl<T> Protocol<T, PassView<T>> for TakenOnce {
     ghost first = { hand (half + half) [] [] };
 }
 
-/// A ticket is put.
+/// The sender puts a ticket.
 pub struct Put;
 
 impl<T> Outcome<T, PassView<T>> for Put {
@@ -25,7 +25,7 @@ impl<T> Lesson<T, PassView<T>> for Put {
     ghost fact = { λ hand left. ⊤ };
 }
 
-/// A ticket is taken by a taker.
+/// A receiver takes a ticket.
 pub struct Take;
 
 impl<T> Outcome<T, PassView<T>> for Take {
@@ -36,7 +36,7 @@ impl<T> Lesson<T, PassView<T>> for Take {
     ghost fact = { λ hand left. ⊤ };
 }
 
-/// A ticket is taken by the end that puts.
+/// The sender takes a ticket back.
 pub struct TakeBack;
 
 impl<T> Outcome<T, PassView<T>> for TakeBack {
@@ -47,7 +47,7 @@ impl<T> Lesson<T, PassView<T>> for TakeBack {
     ghost fact = { λ hand left. hand.parts ≡ half + half → SameTickets hand.put (hand.taken ++ left) };
 }
 
-/// A pass for one taker more, with one part.
+/// Makes a pass with one part, for one more receiver.
 pub struct Admit;
 
 impl<T> Split<PassView<T>> for Admit {
@@ -56,7 +56,7 @@ impl<T> Split<PassView<T>> for Admit {
     ghost right = { λ before. hand 1 [] [] };
 }
 
-/// What a taker's pass knows comes back, with its parts.
+/// A receiver's pass returns its knowledge and its parts.
 pub struct Gather;
 
 impl<T> Join<PassView<T>> for Gather {

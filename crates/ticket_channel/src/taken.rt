@@ -1,9 +1,9 @@
-//! What an end took that takes no more.
+//! The tickets a finished end has taken.
 use crate::pass_view::PassView;
 use crossbeam_channel::Pass;
 use std::marker::Model;
 
-/// The tickets that an end took which takes no more, for clauses alone: it has no bytes.
+/// The tickets a finished end has taken, for contracts only: the type has no bytes.
 #[derive(Drop)]
 pub struct Taken<T: Drop> {
     pub(crate) pass: Pass<T, PassView<T>>,

@@ -1,4 +1,4 @@
-//! What a fleet answers. None of these calls takes memory.
+//! Queries of a fleet. None of them allocates.
 ghost use Rattle.std.specs.Prelude.{◌≡◌, ℕ, ◌<◌, ◌≤◌, ◌&&◌, All, IfSome, IsFalse, MatchOption, None, false, true, length, nat_eq, option_map, position, slice_index_or};
 ghost use Rattle.group_tree.specs.Names.{is_among, same_name};
 ghost use Rattle.fleet_index.specs.NumberLists.{list_at, has_number, IsRising};
@@ -13,7 +13,7 @@ use fleet_index::find_name;
 use group_tree::{GroupId, HostId};
 
 impl Fleet {
-    /// How many hosts there are.
+    /// Returns the number of hosts.
     pub fn hosts(&self) -> usize
         ensures count { result ≡ length self.now.hosts }
         ensures sound { IsSound self.now }
@@ -21,7 +21,7 @@ impl Fleet {
         self.hosts.len()
     }
 
-    /// How many groups there are.
+    /// Returns the number of groups.
     pub fn groups(&self) -> usize
         ensures count { result ≡ length self.now.groups }
         ensures sound { IsSound self.now }
@@ -29,7 +29,7 @@ impl Fleet {
         self.groups.len()
     }
 
-    /// The host of this name.
+    /// Returns the host with this name.
     pub fn host(&self, name: &str) -> Option<HostId>
         ensures { MatchOption result (IsFalse (is_among name.now self.now.hosts))
             (λ host. (host.index < length self.now.hosts) × (host_at self.now.hosts host.index ≡ name.now)
@@ -41,7 +41,7 @@ impl Fleet {
         }
     }
 
-    /// The group of this name.
+    /// Returns the group with this name.
     #[tactic(auto, using(crate::proofs::NameLemmas::position_missing, crate::proofs::NameLemmas::position_of_map))]
     pub fn group(&self, name: &str) -> Option<GroupId>
         ensures index { option_map (λ group. group.index) result ≡ position (same_name name.now) self.now.groups }
@@ -54,7 +54,7 @@ impl Fleet {
         }
     }
 
-    /// The host's name.
+    /// Returns the host's name.
     pub fn name(&self, host: HostId) -> &str
         requires { host.index < length self.now.hosts }
         ensures { result.now ≡ host_at self.now.hosts host.index }
@@ -62,7 +62,7 @@ impl Fleet {
         self.hosts[host.index].as_str()
     }
 
-    /// The group's name.
+    /// Returns the group's name.
     pub fn group_name(&self, group: GroupId) -> &str
         requires { group.index < length self.now.groups }
         ensures { result.now ≡ host_at self.now.groups group.index }
@@ -70,7 +70,7 @@ impl Fleet {
         self.groups[group.index].as_str()
     }
 
-    /// How many hosts of the group may be down at once, where it says so.
+    /// Returns the limit on hosts of the group down at once, if it has one.
     pub fn limit(&self, group: GroupId) -> Option<u16>
         requires { group.index < length self.now.groups }
         ensures { result ≡ slice_index_or self.now.limits group.index None }
@@ -78,7 +78,7 @@ impl Fleet {
         self.limits[group.index]
     }
 
-    /// The group directly above, and none for the outermost.
+    /// Returns the group directly above, or `None` for the outermost.
     pub fn parent(&self, group: GroupId) -> Option<GroupId>
         requires { group.index < length self.now.groups }
         ensures index { option_map (λ parent. parent.index) result ≡ slice_index_or self.now.parents group.index None }
@@ -90,7 +90,7 @@ impl Fleet {
         }
     }
 
-    /// The group's hosts, in the order of their names.
+    /// Returns the group's hosts in name order.
     pub fn members(&self, group: GroupId) -> &[HostId]
         requires { group.index < length self.now.groups }
         ensures members { host_numbers result.now ≡ list_at self.now.members group.index }
@@ -100,7 +100,7 @@ impl Fleet {
         self.members[group.index].as_slice()
     }
 
-    /// The host's limited groups, from the outermost in.
+    /// Returns the host's limited groups, outermost first.
     pub fn chain(&self, host: HostId) -> &[GroupId]
         requires { host.index < length self.now.hosts }
         ensures chain { group_numbers result.now ≡ list_at self.now.chains host.index }
@@ -114,7 +114,7 @@ impl Fleet {
         self.chains[host.index].as_slice()
     }
 
-    /// Whether the host is off when a run starts.
+    /// Returns whether the host is off when a run starts.
     pub fn is_off(&self, host: HostId) -> bool
         requires { host.index < length self.now.hosts }
         ensures { result ≡ slice_index_or self.now.off host.index false }
@@ -122,7 +122,7 @@ impl Fleet {
         self.off[host.index]
     }
 
-    /// How many hosts of the group are off when a run starts.
+    /// Returns how many hosts of the group are off when a run starts.
     pub fn down_at_start(&self, group: GroupId) -> usize
         requires { group.index < length self.now.groups }
         ensures down { result ≡ down_at_start self.now group.index }
@@ -132,7 +132,7 @@ impl Fleet {
         count_off(members, self.off.as_slice())
     }
 
-    /// All hosts as they are dealt to batches.
+    /// Returns all hosts in the order in which they are dealt to batches.
     pub fn deal_order(&self) -> &[HostId]
         ensures order { host_numbers result.now ≡ self.now.order }
         ensures within { All (λ host. host.index < length self.now.hosts) result.now }
@@ -141,7 +141,7 @@ impl Fleet {
         self.order.as_slice()
     }
 
-    /// Whether the group holds the host.
+    /// Returns whether the group contains the host.
     pub fn is_member(&self, group: GroupId, host: HostId) -> bool
         requires { group.index < length self.now.groups }
         ensures { result ≡ has_number host.index (list_at self.now.members group.index) }
@@ -152,7 +152,7 @@ impl Fleet {
             .is_ok()
     }
 
-    /// Where the host stands in the deal order.
+    /// Returns the position of the host in the deal order.
     pub fn deal_place(&self, host: HostId) -> usize
         requires { host.index < length self.now.hosts }
         ensures within { result < length self.now.order }

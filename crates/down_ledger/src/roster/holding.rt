@@ -1,4 +1,4 @@
-//! Hosts are set aside where there is no room for them.
+//! Hosts are held if there is no room for them.
 ghost use Rattle.std.specs.Prelude.{◌≡◌, IsTrue, MatchResult};
 ghost use Rattle.std.specs.List.{list_all};
 ghost use Rattle.fleet_states.specs.declared.status.Status.TheVariants.{Held};
@@ -11,7 +11,8 @@ use crate::roster::Roster;
 use group_tree::HostId;
 
 impl<'f> Roster<'f> {
-    /// Whether each of these hosts is held by a group without room for one host more; else the first that is not.
+    /// Checks that each of these hosts is in a group without room for one more, and otherwise returns the first that
+    /// is not.
     pub fn test_stuck(&self, hosts: &[HostId]) -> Result<(), HostId>
         requires { IsTrue (are_ready self.now.statuses (host_numbers hosts.now)) }
         ensures { MatchResult result
@@ -27,7 +28,7 @@ impl<'f> Roster<'f> {
         Ok(())
     }
 
-    /// Sets waiting hosts aside.
+    /// Holds waiting hosts.
     pub fn set_all_aside(&mut self, hosts: &[HostId])
         requires { IsTrue (are_ready self.old.statuses (host_numbers hosts.now)) }
         ensures { self.new ≡ record self.old { statuses = changed (λ _. Held) (host_numbers hosts.now) self.old.statuses } }

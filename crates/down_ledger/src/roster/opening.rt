@@ -1,4 +1,4 @@
-//! A batch is taken down host by host, or not at all.
+//! A batch is taken down one host at a time, or not at all.
 ghost use Rattle.std.specs.Prelude.{◌≡◌, ℕ, true, false, IsTrue, MatchResult, length};
 ghost use Rattle.fleet_index.specs.NumberLists.{has_number};
 ghost use Rattle.fleet_states.specs.declared.status.Status.TheVariants.{Running, Waiting};
@@ -14,7 +14,7 @@ use fleet_states::Status;
 use group_tree::{GroupId, HostId};
 
 impl<'f> Roster<'f> {
-    /// Whether the hosts wait, each once; else the first that does not.
+    /// Checks that the hosts wait, each once, and otherwise returns the first that does not.
     pub fn test_ready(&mut self, hosts: &[HostId]) -> Result<(), HostId>
         ensures same { self.new ≡ self.old }
         ensures tells { MatchResult result (λ _. IsTrue (are_ready self.old.statuses (host_numbers hosts.now)))
@@ -23,7 +23,7 @@ impl<'f> Roster<'f> {
         test_ready(&mut self.statuses, hosts)
     }
 
-    /// Brings hosts up again whose shares rest: they wait.
+    /// Brings hosts with resting shares up again, as waiting hosts.
     pub fn give_all_back(&mut self, hosts: &[HostId])
         requires all { length self.old.seated ≡ length self.old.statuses }
         requires distinct { IsTrue (are_distinct (host_numbers hosts.now)) }
@@ -35,8 +35,8 @@ impl<'f> Roster<'f> {
         }
     }
 
-    /// Takes the hosts down, one by one. Where there is no room for one, those before it are brought up again, and the group
-    /// is told that has none.
+    /// Takes the hosts down one by one. If there is no room for one of them, it brings the earlier ones up again and
+    /// returns the group without room.
     pub fn take_all(&mut self, hosts: &[HostId]) -> Result<(), GroupId>
         requires all { length self.old.seated ≡ length self.old.statuses }
         requires rest { NobodyRests self.old }
@@ -58,7 +58,8 @@ impl<'f> Roster<'f> {
         Ok(())
     }
 
-    /// Whether there is room for these hosts; else the group that `take_all` would tell. No memory is taken.
+    /// Checks that there is room for these hosts, and otherwise returns the group that `take_all` would return. Does
+    /// not allocate.
     pub fn test_room(&mut self, hosts: &[HostId]) -> Result<(), GroupId>
         requires all { length self.old.seated ≡ length self.old.statuses }
         requires rest { NobodyRests self.old }

@@ -1,4 +1,4 @@
-//! A batch begins.
+//! The start of a batch.
 ghost use Rattle.std.specs.Prelude.{◌≡◌, IsTrue, length};
 ghost use Rattle.fleet_index.specs.NumberLists.{are_below};
 ghost use Rattle.domains.specs.Ids.{host_numbers};
@@ -14,7 +14,7 @@ use crate::work::BatchWork;
 use group_tree::HostId;
 
 impl<'p> BatchWork<'p> {
-    /// Begins the first step of a batch. `line` is a second list of its hosts. It takes no memory.
+    /// Starts the first step of a batch. `line` is a second list of its hosts. Does not allocate.
     pub fn begin(&mut self, batch: Vec<HostId>, line: Vec<HostId>)
         requires within { IsTrue (are_below (length self.old.summaries.items) (host_numbers batch.items)) }
         requires line { line.items ≡ batch.items }

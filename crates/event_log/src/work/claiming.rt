@@ -15,9 +15,9 @@ use host_track::step_at;
 use std::alloc::{AllocError, Global};
 
 impl<'p> BatchWork<'p> {
-    /// Hands out the next host on which the present step is due and that nobody has taken, with what the step asks of it, and
-    /// makes a place for its result; nothing where there is none, or where so many are out. Want of memory leaves all that others
-    /// see as it was.
+    /// Assigns the next host on which the current step is due and that no worker has taken, with the step's request.
+    /// It also creates a slot for the result. Returns `None` if there is no such host or `forks` hosts are already
+    /// out. If an allocation fails, nothing observable changes.
     pub fn claim(&mut self, alloc: Global, forks: usize) -> Result<Option<Assignment>, AllocError>
         ensures ok { (roll : Roll) (state : State) → IsWorkOf roll state self.old → roll.forks ≡ forks → IfOk result (IsClaim roll state self.new) }
         ensures err { (roll : Roll) (state : State) → IsWorkOf roll state self.old → OnErr result (IsWorkOf roll state self.new) }
@@ -42,7 +42,7 @@ impl<'p> BatchWork<'p> {
     }
 }
 
-/// The host at a place of a list.
+/// Returns the host at an index of a list.
 fn host_at(hosts: &[HostId], place: usize) -> Option<HostId>
     ensures { MatchOption result (length hosts.now ≤ place)
         (λ host. (place < length hosts.now) × (slice_get hosts.now place ≡ Some host)) }

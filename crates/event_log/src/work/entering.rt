@@ -22,8 +22,8 @@ use host_track::{Outcome, step_at, undefined_name};
 use play_model::Registered;
 
 impl<'p> BatchWork<'p> {
-    /// Enters the row of a host that is out: the step ended so on it. `copy` is the outcome's row. It answers what was found of it, and
-    /// takes no memory.
+    /// Enters the row of a host that is out and on which the step ended so. `copy` is the row of the outcome. Returns
+    /// how it was judged. Does not allocate.
     pub fn enter(
         &mut self,
         host: HostId,

@@ -7,8 +7,8 @@ use host_track::Counts;
 use host_vars::Vars;
 
 impl<'p> BatchWork<'p> {
-    /// What is left of each host, in the order of the hosts: its variables with its results, where it owes nothing any more, and how its rows were
-    /// judged. It takes no memory.
+    /// Returns the results of each host, in the order of the hosts: its variables with its results, without debts,
+    /// and how its rows were judged. Does not allocate.
     pub fn finish(self) -> (Vec<Vars>, Vec<Counts>)
         ensures vars { map known_of result.0.items ≡ map (λ summary. without_debt (known_of summary.vars)) self.entry.summaries.items }
         ensures counts { result.1.items ≡ map (λ summary. summary.counts) self.entry.summaries.items }

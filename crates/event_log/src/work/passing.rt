@@ -21,28 +21,31 @@ use host_track::Summary;
 use play_model::Play;
 
 impl<'p> BatchWork<'p> {
-    /// The first host of the batch on which the present step is due and that has not reported it. Time linear in the batch.
+    /// Returns the first host of the batch on which the current step is due and that has not reported it. Takes time
+    /// linear in the batch.
     pub fn first_awaited(&self) -> Option<HostId>
         ensures { option_map (λ host. host.index) result ≡ find (λ host. awaits (turn_at self.now.turns.items host)) (host_numbers self.now.batch.items) }
     {
         first_of(self.batch.as_slice(), self.turns.as_slice())
     }
 
-    /// How many hosts of the batch have not reported the present step, which is due on them. Time linear in the batch.
+    /// Returns how many hosts of the batch have not reported the current step although it is due on them. Takes time
+    /// linear in the batch.
     pub fn awaited(&self) -> usize
         ensures { result ≡ count_by (λ host. awaits (turn_at self.now.turns.items host)) (host_numbers self.now.batch.items) }
     {
         awaited_of(self.batch.as_slice(), self.turns.as_slice())
     }
 
-    /// How many hosts of the batch have failed until now. Time linear in the batch.
+    /// Returns how many hosts of the batch have failed so far. Takes time linear in the batch.
     pub fn failures(&self) -> usize
         ensures { (roll : Roll) (state : State) → IsWorkOf roll state self.now → result ≡ states.failures state }
     {
         failures_in(self.summaries.as_slice(), self.batch.as_slice())
     }
 
-    /// Passes the present step: the batch halts, ends, or begins the next. Time linear in the batch; it takes no memory.
+    /// Passes the current step: the batch halts, ends, or starts the next one. Takes time linear in the batch. Does
+    /// not allocate.
     pub fn pass(&mut self, step: usize)
         requires working { self.old.stage ≡ Working step }
         requires few { length self.old.batch.items < 2 ^ 32 }
@@ -89,7 +92,7 @@ fn is_awaited(turns: &[Turn], host: HostId) -> bool
     }
 }
 
-/// How many of these hosts have failed.
+/// Returns how many of these hosts have failed.
 fn failures_in(summaries: &[Summary], hosts: &[HostId]) -> usize
     ensures some { result ≤ length hosts.now }
     ensures count { result ≡ count_by (λ host. failed_at summaries.now host.index) hosts.now }
@@ -109,7 +112,7 @@ fn has_failed(summaries: &[Summary], host: HostId) -> bool
     }
 }
 
-/// How a batch of this size goes on behind a step by which so many of its hosts have failed.
+/// Returns how a batch of this size continues after a step by which this many of its hosts have failed.
 fn stage_after(play: &Play, step: usize, failures: usize, size: usize) -> Stage
     requires step { step < length play.now.steps.items }
     requires few { size < 2 ^ 32 }

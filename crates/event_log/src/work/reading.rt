@@ -1,4 +1,4 @@
-//! What others see of the work.
+//! The observable state of the work.
 ghost use Rattle.std.specs.Prelude.{◌≡◌, ◌≤◌, false, MatchOption, Some, length, slice_get};
 ghost use Rattle.event_log.specs.declared.turn.Turn.TheVariants.{Out};
 ghost use Rattle.event_log.specs.Turns.{is_out, turn_at};
@@ -16,21 +16,21 @@ impl<'p> BatchWork<'p> {
         self.stage
     }
 
-    /// The hosts of the open batch, in their order.
+    /// Returns the hosts of the open batch, in order.
     pub fn batch(&self) -> &[HostId]
         ensures { result.now ≡ self.now.batch.items }
     {
         self.batch.as_slice()
     }
 
-    /// How many hosts are taken and have not reported.
+    /// Returns how many hosts are taken and have not reported.
     pub fn out(&self) -> usize
         ensures { result ≡ self.now.out }
     {
         self.out
     }
 
-    /// What is kept of a host's rows; nothing of a number that no host has.
+    /// Returns the summary of a host's rows, or `None` for a number without a host.
     pub fn summary(&self, host: HostId) -> Option<&Summary>
         ensures { MatchOption result (length self.now.summaries.items ≤ host.index)
             (λ summary. slice_get self.now.summaries.items host.index ≡ Some summary.now) }
@@ -38,7 +38,7 @@ impl<'p> BatchWork<'p> {
         self.summaries.get(host.index)
     }
 
-    /// What was given out for a host that is taken and has not reported.
+    /// Returns the request for a host that is taken and has not reported.
     pub fn given(&self, host: HostId) -> Option<&StepRequest>
         ensures { MatchOption result (is_out (turn_at self.now.turns.items host.index) ≡ false)
             (λ asked. turn_at self.now.turns.items host.index ≡ Out asked.now) }

@@ -16,8 +16,8 @@ use play_model::Play;
 use std::alloc::{AllocError, Global};
 
 impl<'p> BatchWork<'p> {
-    /// Of hosts that begin the play with these variables, which it shares, and these results, which it copies. It fails for want of
-    /// memory alone.
+    /// Creates the work for hosts that start the play with these variables, which it shares, and these results, which
+    /// it copies. Fails only if an allocation fails.
     pub fn new(alloc: Global, play: &'p Play, vars: &[Vars]) -> Result<BatchWork<'p>, AllocError>
         ensures { (roll : Roll) → roll.play ≡ play.now → length roll.start ≡ length vars.now → ((host : ℕ) → roll.known host ≡ known_at vars.now host)
             → IfOk result (IsWorkOf roll (start_state roll)) }
@@ -39,7 +39,7 @@ impl<'p> BatchWork<'p> {
     }
 }
 
-/// A summary of no row for each; they share the names of the play's registers.
+/// Returns an empty summary for each host; they share the names of the play's registers.
 fn summaries_of(alloc: Global, play: &Play, vars: &[Vars]) -> Result<Vec<Summary>, AllocError>
     ensures all { IfOk result (λ summaries. length summaries.items ≡ length vars.now) }
     ensures show { IfOk result (λ summaries. ShowEach play.now (known_at vars.now) (λ host. []) summaries.items) }
@@ -53,7 +53,7 @@ fn summaries_of(alloc: Global, play: &Play, vars: &[Vars]) -> Result<Vec<Summary
     Ok(summaries)
 }
 
-/// So many hosts of which nothing is awaited.
+/// Returns this many turns of hosts of which nothing is awaited.
 fn nobody_due(alloc: Global, hosts: usize) -> Result<Vec<Turn>, AllocError>
     ensures { IfOk result (λ turns. turns.items ≡ replicate hosts Over) }
 {

@@ -1,4 +1,4 @@
-//! Tickets go out, and those that are left come back.
+//! Issuing tickets, and taking back those that are left.
 ghost use Rattle.std.specs.Prelude.{◌≡◌, ◌+◌, ◌-◌, ◌<◌, false, length};
 ghost use Rattle.fork_pool.specs.Inside.{HasLost, IsGivenOut, IsPut, is_stopped};
 ghost use Rattle.fork_pool.specs.Pools.{IsSameLine};
@@ -35,7 +35,7 @@ impl<'f, R: Runner> Front<'f, R> {
         unreachable!()
     }
 
-    /// False is told where nothing is left to give out.
+    /// Puts one ticket. Returns false if nothing is left to issue.
     fn give_one<L: Ledger, H: Wait, W: Observer>(
         &mut self,
         rt: &H,
@@ -58,7 +58,7 @@ impl<'f, R: Runner> Front<'f, R> {
         }
     }
 
-    /// The line has room for as many tickets as may be out. One for which there was none is stranded.
+    /// Puts a ticket. The channel has room for as many tickets as can be out; a ticket without room is stranded.
     fn put<L: Ledger, H: Wait, W: Observer>(
         &mut self,
         rt: &H,
@@ -77,7 +77,7 @@ impl<'f, R: Runner> Front<'f, R> {
         }
     }
 
-    /// Where something went wrong, the tickets come back that no worker has taken.
+    /// If an error has stopped the step, takes back the tickets that no worker has taken.
     pub(crate) fn call_back_if_stopped<L: Ledger, H: Wait, W: Observer>(
         &mut self,
         rt: &H,
@@ -94,7 +94,7 @@ impl<'f, R: Runner> Front<'f, R> {
         }
     }
 
-    /// Takes the tickets back that no worker has taken.
+    /// Takes back the tickets that no worker has taken.
     pub(crate) fn call_back<L: Ledger, H: Wait, W: Observer>(
         &mut self,
         rt: &H,

@@ -1,4 +1,4 @@
-//! A step on the workers of a pool.
+//! Running a step on the workers of a pool.
 ghost use Rattle.std.specs.Prelude.{◌≡◌, ◌-◌, ◌<◌, ◌⊎◌, true, false, IfErr, IfOk};
 ghost use Rattle.fork_pool.specs.Faults.{IsFaultOf};
 ghost use Rattle.fork_pool.specs.Inside.{IsOver};
@@ -14,8 +14,8 @@ use std::sync::Wait;
 use std::sync::ledger::Ledger;
 
 impl<'f, R: Runner> Front<'f, R> {
-    /// Works on the present step of the board until each host on which it is due has reported it, with the workers of the pool. The pool may
-    /// outlive the board.
+    /// Runs the board's current step on the pool's workers until every host on which it is due has reported it. The pool can outlive the
+    /// board.
     pub fn step<'b, L: Ledger, H: Wait, W: Observer>(
         &mut self,
         rt: &H,
@@ -39,7 +39,7 @@ impl<'f, R: Runner> Front<'f, R> {
         step.end()
     }
 
-    /// Until nothing is left to put, and each ticket that was put has come back, or no reply can come any more.
+    /// Continues until nothing is left to put and every ticket has come back, or no reply can come any more.
     fn resume<'b, L: Ledger, H: Wait, W: Observer>(
         &mut self,
         rt: &H,
@@ -62,7 +62,7 @@ impl<'f, R: Runner> Front<'f, R> {
         unreachable!()
     }
 
-    /// Puts what can be put, and enters one reply. False is told where none is to come.
+    /// Puts what can be put, and records one reply. Returns false if none is to come.
     fn turn<'b, L: Ledger, H: Wait, W: Observer>(
         &mut self,
         rt: &H,
@@ -85,7 +85,7 @@ impl<'f, R: Runner> Front<'f, R> {
         self.receive(rt, step)
     }
 
-    /// Waits for a reply, and enters it. False is told where no worker is left to reply: the tickets that are left come back.
+    /// Waits for a reply, and records it. Returns false if no worker is left to reply; the remaining tickets are then taken back.
     fn receive<'b, L: Ledger, H: Wait, W: Observer>(
         &mut self,
         rt: &H,

@@ -1,11 +1,11 @@
-//! What holds of every roll over a script.
+//! Properties of every run over a script.
 ghost use Rattle.fork_pool.specs.ScriptLaws.{IsByItsScript};
 
 use crate::script::Script;
 use roll_core::{Board, Observer};
 use std::sync::ledger::Ledger;
 
-/// The log of a board over a script tells what the script says, and a batch of it ends as each of its hosts does by itself on that, at any
+/// The log of a board over a script records what the script specifies. Each host of a batch ends as the script decides for it, with any
 /// number of forks and in any order of reports.
 pub fn batches_end_by_their_script<L: Ledger, W: Observer>(board: &Board<'_, Script, L, W>)
     ensures { IsByItsScript board.now }

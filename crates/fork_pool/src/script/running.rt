@@ -41,7 +41,7 @@ impl Runner for Script {
     ghost one_relation = { same_relation };
 }
 
-/// How the program of this host and step ends.
+/// Returns how the program of this host and step ends.
 fn outcome_of(alloc: Global, rows: &[Row], host: HostId, step: usize) -> Result<Outcome, AllocError>
     ensures { IfOk result (λ outcome. ending_of outcome ≡ told_by (lines_of rows.now) host.index step) }
 {

@@ -1,4 +1,4 @@
-//! A batch passes a step, and is over.
+//! Passing a step and closing a batch.
 ghost use Rattle.std.specs.Prelude.{◌≡◌, ℕ, Option, IfErr, IfOk, OnErr, Some, true};
 ghost use Rattle.fleet_states.specs.Batches.{statuses_after};
 ghost use Rattle.event_log.specs.Columns.{Columns, Tells, fails_by};
@@ -19,8 +19,8 @@ use crate::telling::tell;
 use std::sync::ledger::Ledger;
 
 impl<'f, R: Runner, L: Ledger, W: Observer> Board<'f, R, L, W> {
-    /// Passes the present step once each host of the batch on which it is due has reported it; else names the first that has not, and
-    /// changes nothing. Time linear in the batch; it takes no memory.
+    /// Passes the current step once every host of the batch on which it is due has reported it. Otherwise returns the first host that has
+    /// not, and changes nothing. Takes time linear in the batch, and does not allocate.
     pub fn barrier(&mut self) -> Result<Next, Busy>
         requires { is_working (state_of self.old.kernel).phase ≡ true }
         ensures ok { IfOk result (HasPassed self.old.kernel self.new.kernel) }
@@ -32,9 +32,9 @@ impl<'f, R: Runner, L: Ledger, W: Observer> Board<'f, R, L, W> {
         Ok(next)
     }
 
-    /// Closes a batch that is over: its live hosts are up again, or halted and down where it was halted. The statuses of
-    /// the fleet are then those at its opening, but for what becomes of each of its hosts by itself on the ends that were reported. Its log is
-    /// legal. It takes no memory.
+    /// Closes a batch that has ended. Its live hosts are up again, unless the batch was halted; then they are halted and stay down. The
+    /// fleet's statuses are those at the opening, except that each host of the batch has the status its own reported step ends give it. The
+    /// log is legal. Does not allocate.
     pub fn close(&mut self)
         requires { is_over (state_of self.old.kernel).phase ≡ true }
         ensures event { self.new ≡ with_event self.old closed }

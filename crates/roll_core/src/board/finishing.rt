@@ -1,4 +1,4 @@
-//! A roll is over.
+//! Ending a run.
 ghost use Rattle.std.specs.Prelude.{◌≡◌, ◌++◌, ◌∷◌, [], length};
 ghost use Rattle.event_log.specs.Logs.{IsLegal};
 ghost use Rattle.event_log.specs.States.{start_state};
@@ -15,8 +15,9 @@ use crate::runner::Runner;
 use std::sync::ledger::Ledger;
 
 impl<'f, R: Runner, L: Ledger, W: Observer> Board<'f, R, L, W> {
-    /// Hands out what is left of each host, also while a batch is open: its hosts are down then. The watcher, which comes back, has heard what is
-    /// told of the log from some moment on, and nothing else since; and the history has the log behind those that it had. It takes no memory.
+    /// Returns the final data of each host, even if a batch is open: the hosts of that batch are down then. Also returns the observer,
+    /// which has received exactly what the log requires from some point on. The history has this log appended to the earlier ones. Does not
+    /// allocate.
     pub fn finish(self) -> (Finished, W, History)
         ensures log { result.2 ≡ self.entry.context.earlier ++ self.entry.kernel.log ∷ [] }
         ensures legal { IsLegal (roll_of self.entry.kernel) (start_state (roll_of self.entry.kernel)) self.entry.kernel.log }

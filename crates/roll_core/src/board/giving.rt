@@ -1,4 +1,4 @@
-//! A worker takes a host, and may find no memory for its work.
+//! A worker takes a host, or runs out of memory for it.
 ghost use Rattle.std.specs.Prelude.{◌≡◌, IfOk, IfSome, OnErr};
 ghost use Rattle.roll_core.specs.Givings.{HasItsGo, IsGiving};
 
@@ -12,9 +12,9 @@ use std::alloc::{AllocError, Global};
 use std::sync::ledger::Ledger;
 
 impl<'f, R: Runner, L: Ledger, W: Observer> Board<'f, R, L, W> {
-    /// Hands out the next host of the batch on which the present step is due and that nobody has taken, with its share, its job and the
-    /// leave to run it once, or with how the step ended where no program is to run; none where there is no such host, where no batch is
-    /// at a step, or where as many claims are out as there are forks. Want of memory leaves everything as it was.
+    /// Returns the next host of the batch on which the current step is due and that no worker has taken. It comes with its share, its job
+    /// and the permit to run the job once. If no program is to run, it comes with the step's end instead. Returns nothing if there is no
+    /// such host, if no batch is at a step, or if `forks` claims are out. If an allocation fails, changes nothing.
     pub fn claim(&mut self, alloc: Global) -> Result<Option<Claimed<'f, R>>, AllocError>
         ensures ok { IfOk result (IsGiving self.old self.new) }
         ensures leave { IfOk result (λ out. IfSome out HasItsGo) }
@@ -28,8 +28,8 @@ impl<'f, R: Runner, L: Ledger, W: Observer> Board<'f, R, L, W> {
         Ok(Some(given_out(handed, runner)))
     }
 
-    /// Gives a claim up whose worker found no memory. The claim stays out, its host stays down, and its batch doesn't pass the step unless
-    /// a `Done` of an equal claim is reported for it.
+    /// Gives up a claim whose worker ran out of memory. The claim stays out and its host stays down. Its batch doesn't pass the step unless
+    /// a `Done` of an equal claim is reported instead.
     pub fn strand(&mut self, claim: Claim)
         ensures { self.new ≡ self.old }
     {

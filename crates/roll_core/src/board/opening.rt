@@ -1,4 +1,4 @@
-//! A batch begins, and hosts are set aside.
+//! Opening a batch, and holding hosts.
 ghost use Rattle.std.specs.Prelude.{◌≡◌, ◌<◌, IfErr, OnErr, OnOk, length};
 ghost use Rattle.domains.specs.Ids.{host_numbers};
 ghost use Rattle.event_log.specs.Events.{opened, set_aside};
@@ -20,8 +20,8 @@ use std::alloc::Global;
 use std::sync::ledger::Ledger;
 
 impl<'f, R: Runner, L: Ledger, W: Observer> Board<'f, R, L, W> {
-    /// Begins a batch at the first step: its hosts are down from now on, and the closing brings those up that neither failed nor were halted. A refusal
-    /// leaves everything as it was.
+    /// Opens a batch at the first step. Its hosts are down from now on; closing it brings up those that neither failed nor were halted. If
+    /// it fails, changes nothing.
     pub fn open(&mut self, alloc: Global, hosts: &[HostId]) -> Result<(), OpenFault>
         requires { 0 < length hosts.now }
         ensures ok { OnOk result (self.new ≡ with_event self.old (opened (host_numbers hosts.now))) }
@@ -43,7 +43,7 @@ impl<'f, R: Runner, L: Ledger, W: Observer> Board<'f, R, L, W> {
         }
     }
 
-    /// Sets hosts aside: they are up, and wait no more. A refusal leaves everything as it was.
+    /// Holds hosts: they are up and no longer wait. If it fails, changes nothing.
     pub fn hold(&mut self, alloc: Global, hosts: &[HostId]) -> Result<(), HoldFault>
         requires { 0 < length hosts.now }
         ensures ok { OnOk result (self.new ≡ with_event self.old (set_aside (host_numbers hosts.now))) }

@@ -1,4 +1,4 @@
-//! What others see of a board.
+//! Reading a board.
 ghost use Rattle.std.specs.Prelude.{◌≡◌, ◌<◌, ◌≤◌, [], count_by, length};
 ghost use Rattle.fleet_states.specs.Statuses.{NobodyRuns, down_count, status_at};
 ghost use Rattle.fleet_states.specs.Groups.{IsSafe, group_at, groups_of};
@@ -26,7 +26,7 @@ use play_model::Play;
 use std::sync::ledger::Ledger;
 
 impl<'f, R: Runner, L: Ledger, W: Observer> Board<'f, R, L, W> {
-    /// All events, the oldest first.
+    /// Returns all events, oldest first.
     pub fn log(&self) -> &[Event]
         ensures value { events_of result.now ≡ self.now.kernel.log }
         ensures all { length self.now.kernel.start ≡ length self.now.kernel.fleet.hosts }
@@ -38,7 +38,7 @@ impl<'f, R: Runner, L: Ledger, W: Observer> Board<'f, R, L, W> {
         self.kernel.log()
     }
 
-    /// The board as it stands, and can't move on as long as this is held.
+    /// Returns a view of the board as it currently is; the board can't change while the view is borrowed.
     pub fn moment(&self) -> Moment<'_>
         ensures { result ≡ self.now.kernel.log }
     {
@@ -63,7 +63,7 @@ impl<'f, R: Runner, L: Ledger, W: Observer> Board<'f, R, L, W> {
         self.runner
     }
 
-    /// How many claims may be out at once.
+    /// Returns how many claims can be out at once.
     pub fn forks(&self) -> usize
         ensures value { result ≡ self.now.kernel.forks }
         ensures some { 0 < result }
@@ -72,7 +72,7 @@ impl<'f, R: Runner, L: Ledger, W: Observer> Board<'f, R, L, W> {
         self.kernel.forks()
     }
 
-    /// The status of each host at the start, and its variables then.
+    /// Returns each host's status and variables at the start.
     pub fn opening(&self) -> (&'f [Status], &'f [Vars])
         ensures start { result.0.now ≡ self.now.kernel.start }
         ensures vars { result.1.now ≡ self.now.kernel.vars }
@@ -80,14 +80,14 @@ impl<'f, R: Runner, L: Ledger, W: Observer> Board<'f, R, L, W> {
         self.kernel.opening()
     }
 
-    /// The status of a host now; a number that no host has is idle.
+    /// Returns a host's current status; a number that no host has is idle.
     pub fn status(&self, host: HostId) -> Status
         ensures { result ≡ status_at (state_of self.now.kernel).statuses host.index }
     {
         self.kernel.status(host)
     }
 
-    /// The status of each host now. No group is over its limit, and nobody runs where no batch is open.
+    /// Returns each host's current status. No group exceeds its limit, and no host is running if no batch is open.
     pub fn statuses(&self) -> &[Status]
         ensures value { result.now ≡ (state_of self.now.kernel).statuses }
         ensures all { length result.now ≡ length self.now.kernel.fleet.hosts }
@@ -97,36 +97,36 @@ impl<'f, R: Runner, L: Ledger, W: Observer> Board<'f, R, L, W> {
         self.kernel.statuses()
     }
 
-    /// The hosts of the open batch, in its order; none where no batch is open.
+    /// Returns the hosts of the open batch in its order, or none if no batch is open.
     pub fn batch(&self) -> &[HostId]
         ensures { host_numbers result.now ≡ (state_of self.now.kernel).batch }
     {
         self.kernel.batch()
     }
 
-    /// How many hosts of the open batch have failed until now. Time linear in the batch.
+    /// Returns how many hosts of the open batch have failed so far. Takes time linear in the batch.
     pub fn failures(&self) -> usize
         ensures { result ≡ failures (state_of self.now.kernel) }
     {
         self.kernel.failures()
     }
 
-    /// How many of the group's members are down now: the number that its limit bounds. Near-constant time for a group that has a
-    /// limit; the members of another are counted.
+    /// Returns how many members of the group are currently down: the number that its limit bounds. Takes near-constant time if the group
+    /// has a limit; otherwise counts the members.
     pub fn down(&self, group: GroupId) -> u32
         ensures { result ≡ down_count (state_of self.now.kernel).statuses (group_at (groups_of self.now.kernel.fleet) group.index).members }
     {
         self.kernel.down(group)
     }
 
-    /// How far the roll is: no batch is open, or the open one is at a step, or at its end.
+    /// Returns the stage of the run: no batch is open, or the open one is at a step, or at its end.
     pub fn stage(&self) -> Stage
         ensures { phase_of result ≡ (state_of self.now.kernel).phase }
     {
         self.kernel.stage()
     }
 
-    /// How the rows of a host are judged until now; a number that no host has has none.
+    /// Returns how the rows of a host have been judged so far; a number that no host has has no rows.
     pub fn counts(&self, host: HostId) -> Counts
         ensures value { host.index < length self.now.kernel.start → result ≡ counts_in ((state_of self.now.kernel).rows host.index) }
         ensures none { length self.now.kernel.start ≤ host.index → result ≡ counts_in [] }
@@ -134,21 +134,21 @@ impl<'f, R: Runner, L: Ledger, W: Observer> Board<'f, R, L, W> {
         self.kernel.counts(host)
     }
 
-    /// How many hosts of the batch have not reported the present step, which is due on them. Time linear in the batch.
+    /// Returns how many hosts of the batch have yet to report the current step, which is due on them. Takes time linear in the batch.
     pub fn due(&self) -> usize
         ensures { result ≡ count_by (is_awaited_in (roll_of self.now.kernel) (state_of self.now.kernel)) (state_of self.now.kernel).batch }
     {
         self.kernel.due()
     }
 
-    /// How many claims are out.
+    /// Returns how many claims are out.
     pub fn out(&self) -> usize
         ensures { result ≡ length (state_of self.now.kernel).out }
     {
         self.kernel.out()
     }
 
-    /// How many tallies are out. Where none is, those that came back have counted each report of the log.
+    /// Returns how many tallies are out. If none is, the returned tallies have counted every report of the log.
     pub fn tallies(&self) -> usize
         ensures value { result ≡ self.now.tallies }
         ensures few { result ≤ 128 }
@@ -157,7 +157,7 @@ impl<'f, R: Runner, L: Ledger, W: Observer> Board<'f, R, L, W> {
         self.tallies
     }
 
-    /// How many reports the tallies had counted that came back.
+    /// Returns how many reports the returned tallies have counted.
     pub fn joined(&self) -> usize
         ensures { result ≡ self.now.joined }
     {

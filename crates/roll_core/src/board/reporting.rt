@@ -1,4 +1,4 @@
-//! A worker gives a host back.
+//! A worker returns a host.
 ghost use Rattle.std.specs.Prelude.{◌≡◌, IfErr, OnErr, OnOk, suc};
 ghost use Rattle.roll_core.specs.Claims.{IsOut, event_in};
 ghost use Rattle.roll_core.specs.Views.{roll_of, state_of};
@@ -15,9 +15,9 @@ use crate::telling::report_row;
 use std::sync::ledger::Ledger;
 
 impl<'f, R: Runner, L: Ledger, W: Observer> Board<'f, R, L, W> {
-    /// Enters how a step ended on a host, whose share rests until the batch is closed, and counts it in the tally. Where no claim of this
-    /// host and step with these words, or this settled outcome, is out, or its runner isn't alike the board's, it hands the `Done` back and
-    /// changes nothing. It takes no memory.
+    /// Records how a step ended on a host, and counts it in the tally. The board stores the host's share until the batch is closed. Fails
+    /// if no claim of this host and step with this command, or with this settled outcome, is out. Also fails if its runner isn't alike the
+    /// board's. Then returns the `Done` and changes nothing. Does not allocate.
     pub fn report(&mut self, done: Done<'f, R>, tally: &mut Tally<L>) -> Result<(), Stranger<'f, R>>
         ensures ok { OnOk result (self.new ≡ with_event self.old (event_in done.entry.completion)) }
         ensures allowed { OnOk result (IsOut (roll_of self.old.kernel) (state_of self.old.kernel) done.entry.completion) }

@@ -9,7 +9,7 @@ use crate::tally::Tally;
 use std::sync::ledger::Ledger;
 
 impl<'f, R: Runner, L: Ledger, W: Observer> Board<'f, R, L, W> {
-    /// A tally of no report, for a worker.
+    /// Returns a worker's tally, which has counted no report yet.
     pub fn split_tally(&mut self) -> Tally<L>
         requires { self.old.tallies < 128 }
         ensures none { result.count ≡ 0 }
@@ -19,7 +19,7 @@ impl<'f, R: Runner, L: Ledger, W: Observer> Board<'f, R, L, W> {
         Tally::new(self.rest.split_off(1, 0))
     }
 
-    /// Takes a tally back. Once none is out, those that came back have counted each report of the log.
+    /// Takes a tally back. Once none is out, the returned tallies have counted every report of the log.
     pub fn join_tally(&mut self, tally: Tally<L>)
         ensures back { self.new ≡ record self.old { tallies = self.old.tallies - 1; joined = self.old.joined + tally.count } }
         ensures some { 0 < self.old.tallies }

@@ -1,4 +1,4 @@
-//! A claim is completed.
+//! Completing a claim.
 ghost use Rattle.std.specs.Prelude.{◌≡◌, IfErr, IfOk, true};
 ghost use Rattle.host_track.specs.Endings.{ending_of};
 ghost use Rattle.event_log.specs.Rolls.{is_of_program};
@@ -12,7 +12,7 @@ use host_track::Outcome;
 use std::alloc::{AllocError, Global};
 
 impl Completion {
-    /// The program of the claim ended so. Want of memory hands the claim back, and drops the outcome.
+    /// Completes the claim: its program ended with this outcome. If an allocation fails, returns the claim and drops the outcome.
     pub fn new(
         alloc: Global,
         claim: Claim,
@@ -39,7 +39,7 @@ impl Completion {
         })
     }
 
-    /// The host of the claim.
+    /// Returns the host of the claim.
     pub fn host(&self) -> HostId
         ensures { result.index ≡ self.now.host }
     {

@@ -10,8 +10,8 @@ use crate::next::{Next, next_of};
 use event_log::Stage;
 
 impl<'f> Kernel<'f> {
-    /// Passes the present step once each host of the batch on which it is due has reported it; else names the first that has not, and
-    /// changes nothing. Time linear in the batch; it takes no memory.
+    /// Passes the current step once every host of the batch on which it is due has reported it. Otherwise returns the first host that has
+    /// not, and changes nothing. Takes time linear in the batch, and does not allocate.
     pub fn barrier(&mut self) -> Result<Next, Busy>
         requires { is_working (state_of self.old).phase ≡ true }
         ensures ok { IfOk result (HasPassed self.old self.new) }

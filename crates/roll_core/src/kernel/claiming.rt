@@ -14,9 +14,9 @@ use event_log::{Assignment, WorkItem};
 use std::alloc::{AllocError, Global};
 
 impl<'f> Kernel<'f> {
-    /// Hands out the next host of the batch on which the present step is due and that nobody has taken, with its share and its job,
-    /// or with the outcome where no program is to run; none where there is no such host, or where as many claims are out as there are
-    /// forks. Want of memory leaves everything as it was.
+    /// Returns the next host of the batch on which the current step is due and that no worker has taken. It comes with its share and its
+    /// job, or with the outcome if no program is to run. Returns nothing if there is no such host, or if `forks` claims are out. If an
+    /// allocation fails, changes nothing.
     pub fn claim(&mut self, alloc: Global) -> Result<Option<Handed>, AllocError>
         ensures ok { IfOk result (IsClaim self.old self.new) }
         ensures unchanged { OnErr result (self.new ≡ self.old) }
@@ -31,14 +31,14 @@ impl<'f> Kernel<'f> {
         Ok(Some(claimed(share, taken)))
     }
 
-    /// Gives a claim up whose worker found no memory. The claim stays out, its host stays down, and its batch doesn't pass the step
-    /// unless a `Completion` of an equal claim is reported for it.
+    /// Gives up a claim whose worker ran out of memory. The claim stays out and its host stays down. Its batch doesn't pass the step unless
+    /// a `Completion` of an equal claim is reported instead.
     pub fn strand(&mut self, _claim: Claim)
         ensures { self.new ≡ self.old }
     {}
 }
 
-/// What a worker is given, with the host's share.
+/// Combines what a worker receives with the host's share.
 fn claimed(share: Share, taken: Assignment) -> Handed
     requires host { share.host ≡ taken.host }
     requires row { HasRow taken.given }

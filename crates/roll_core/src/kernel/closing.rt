@@ -1,4 +1,4 @@
-//! A batch is over.
+//! Closing a batch.
 ghost use Rattle.std.specs.Prelude.{◌≡◌, ℕ, Option, true};
 ghost use Rattle.fleet_states.specs.Batches.{statuses_after};
 ghost use Rattle.event_log.specs.Columns.{Columns, Tells, fails_by};
@@ -14,9 +14,9 @@ use crate::kernel::{Kernel, keep};
 use event_log::Stage;
 
 impl<'f> Kernel<'f> {
-    /// Closes a batch that is over: its live hosts are up again, or halted and down where it was halted. The statuses of the
-    /// fleet are then those at its opening, but for what becomes of each of its hosts by itself on the ends that were reported. Its log is
-    /// legal. It takes no memory.
+    /// Closes a batch that has ended. Its live hosts are up again, unless the batch was halted; then they are halted and stay down. The
+    /// fleet's statuses are those at the opening, except that each host of the batch has the status its own reported step ends give it. The
+    /// log is legal. Does not allocate.
     pub fn close(&mut self)
         requires { is_over (state_of self.old).phase ≡ true }
         ensures event { self.new ≡ with_event self.old closed }

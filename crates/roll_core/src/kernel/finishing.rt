@@ -1,4 +1,4 @@
-//! A roll is over.
+//! Ending a run.
 ghost use Rattle.std.specs.Prelude.{◌≡◌, length};
 ghost use Rattle.event_log.specs.Logs.{IsLegal};
 ghost use Rattle.event_log.specs.States.{start_state};
@@ -10,7 +10,7 @@ use crate::finished::Finished;
 use crate::kernel::Kernel;
 
 impl<'f> Kernel<'f> {
-    /// Hands out the log and what is left of each host, also while a batch is open: its hosts are down then. It takes no memory.
+    /// Returns the log and the final data of each host, even if a batch is open: the hosts of that batch are down then. Does not allocate.
     pub fn finish(self) -> (Vec<Event>, Finished)
         ensures log { events_of result.0.items ≡ self.entry.log }
         ensures legal { IsLegal (roll_of self.entry) (start_state (roll_of self.entry)) self.entry.log }

@@ -1,4 +1,4 @@
-//! Hosts for which there is no room are set aside.
+//! Holding hosts without room.
 ghost use Rattle.std.specs.Prelude.{◌≡◌, ◌<◌, IfErr, MatchResult, OnErr, OnOk, length};
 ghost use Rattle.domains.specs.Ids.{host_numbers};
 ghost use Rattle.event_log.specs.Events.{set_aside};
@@ -16,7 +16,7 @@ use group_tree::HostId;
 use std::alloc::Global;
 
 impl<'f> Kernel<'f> {
-    /// Sets hosts aside: they are up, and wait no more. A refusal leaves everything as it was.
+    /// Holds hosts: they are up and no longer wait. If it fails, changes nothing.
     pub fn hold(&mut self, alloc: Global, hosts: &[HostId]) -> Result<(), HoldFault>
         requires { 0 < length hosts.now }
         ensures ok { OnOk result (self.new ≡ with_event self.old (set_aside (host_numbers hosts.now))) }
@@ -32,7 +32,7 @@ impl<'f> Kernel<'f> {
         Ok(())
     }
 
-    /// Whether the hosts may be set aside.
+    /// Checks that the hosts may be held.
     fn test_hold(&mut self, hosts: &[HostId]) -> Result<(), HoldFault>
         requires { 0 < length hosts.now }
         ensures same { self.new ≡ self.old }

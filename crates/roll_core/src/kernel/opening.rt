@@ -1,4 +1,4 @@
-//! A batch begins.
+//! Opening a batch.
 ghost use Rattle.std.specs.Prelude.{◌≡◌, ◌<◌, IfErr, IsTrue, MatchResult, OnErr, OnOk, length, true};
 ghost use Rattle.domains.specs.Ids.{host_numbers};
 ghost use Rattle.fleet_states.specs.declared.status.Status.TheVariants.{Running};
@@ -22,8 +22,8 @@ use group_tree::HostId;
 use std::alloc::Global;
 
 impl<'f> Kernel<'f> {
-    /// Begins a batch at the first step: its hosts are down from now on, and the closing brings those up that neither failed nor were halted. A refusal
-    /// leaves everything as it was.
+    /// Opens a batch at the first step. Its hosts are down from now on; closing it brings up those that neither failed nor were halted. If
+    /// it fails, changes nothing.
     pub fn open(&mut self, alloc: Global, hosts: &[HostId]) -> Result<(), OpenFault>
         requires { 0 < length hosts.now }
         ensures ok { OnOk result (self.new ≡ with_event self.old (opened (host_numbers hosts.now))) }
@@ -36,7 +36,7 @@ impl<'f> Kernel<'f> {
         let batch = Batch::from_slice(alloc, hosts)?;
         let members = Vec::from_slice(alloc, hosts)?;
         let line = Vec::from_slice(alloc, hosts)?;
-        // The opening, a barrier a step, and the closing.
+        // One event for the opening, one barrier per step, and one event for the closing.
         self.log.reserve(self.play.steps().len() + 2)?;
         take_down(&mut self.roster, hosts);
         self.work.begin(members, line);
@@ -44,7 +44,7 @@ impl<'f> Kernel<'f> {
         Ok(())
     }
 
-    /// Whether the hosts may be opened as a batch.
+    /// Checks that the hosts may be opened as a batch.
     fn test_batch(&mut self, hosts: &[HostId]) -> Result<(), OpenFault>
         requires { 0 < length hosts.now }
         ensures same { self.new ≡ self.old }
@@ -59,7 +59,7 @@ impl<'f> Kernel<'f> {
     }
 }
 
-/// Takes hosts down for which there is room.
+/// Takes hosts down that there is room for.
 fn take_down(roster: &mut Roster<'_>, hosts: &[HostId])
     requires all { length roster.old.seated ≡ length roster.old.statuses }
     requires rest { NobodyRests roster.old }

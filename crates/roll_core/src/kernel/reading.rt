@@ -1,4 +1,4 @@
-//! What others see of a kernel.
+//! Reading a kernel.
 ghost use Rattle.std.specs.Prelude.{◌≡◌, ◌<◌, ◌≤◌, [], count_by, length};
 ghost use Rattle.fleet_states.specs.Statuses.{NobodyRuns, down_count, status_at};
 ghost use Rattle.fleet_states.specs.Groups.{IsSafe, group_at, groups_of};
@@ -21,7 +21,7 @@ use host_vars::Vars;
 use play_model::Play;
 
 impl<'f> Kernel<'f> {
-    /// All events, the oldest first.
+    /// Returns all events, oldest first.
     pub fn log(&self) -> &[Event]
         ensures value { events_of result.now ≡ self.now.log }
         ensures all { length self.now.start ≡ length self.now.fleet.hosts }
@@ -44,7 +44,7 @@ impl<'f> Kernel<'f> {
         self.play
     }
 
-    /// How many claims may be out at once.
+    /// Returns how many claims can be out at once.
     pub fn forks(&self) -> usize
         ensures value { result ≡ self.now.forks }
         ensures some { 0 < result }
@@ -53,7 +53,7 @@ impl<'f> Kernel<'f> {
         self.forks
     }
 
-    /// The status of each host at the start, and its variables then.
+    /// Returns each host's status and variables at the start.
     pub fn opening(&self) -> (&'f [Status], &'f [Vars])
         ensures start { result.0.now ≡ self.now.start }
         ensures vars { result.1.now ≡ self.now.vars }
@@ -61,14 +61,14 @@ impl<'f> Kernel<'f> {
         (self.start, self.vars)
     }
 
-    /// The status of a host now; a number that no host has is idle.
+    /// Returns a host's current status; a number that no host has is idle.
     pub fn status(&self, host: HostId) -> Status
         ensures { result ≡ status_at (state_of self.now).statuses host.index }
     {
         self.roster.status(host)
     }
 
-    /// The status of each host now. No group is over its limit, and nobody runs where no batch is open.
+    /// Returns each host's current status. No group exceeds its limit, and no host is running if no batch is open.
     pub fn statuses(&self) -> &[Status]
         ensures value { result.now ≡ (state_of self.now).statuses }
         ensures all { length result.now ≡ length self.now.fleet.hosts }
@@ -78,36 +78,36 @@ impl<'f> Kernel<'f> {
         self.roster.statuses()
     }
 
-    /// The hosts of the open batch, in its order; none where no batch is open.
+    /// Returns the hosts of the open batch in its order, or none if no batch is open.
     pub fn batch(&self) -> &[HostId]
         ensures { host_numbers result.now ≡ (state_of self.now).batch }
     {
         self.work.batch()
     }
 
-    /// How many hosts of the open batch have failed until now. Time linear in the batch.
+    /// Returns how many hosts of the open batch have failed so far. Takes time linear in the batch.
     pub fn failures(&self) -> usize
         ensures { result ≡ failures (state_of self.now) }
     {
         self.work.failures()
     }
 
-    /// How many of the group's members are down now: the number that its limit bounds. Near-constant time for a group that has a
-    /// limit; the members of another are counted.
+    /// Returns how many members of the group are currently down: the number that its limit bounds. Takes near-constant time if the group
+    /// has a limit; otherwise counts the members.
     pub fn down(&self, group: GroupId) -> u32
         ensures { result ≡ down_count (state_of self.now).statuses (group_at (groups_of self.now.fleet) group.index).members }
     {
         self.roster.down(group)
     }
 
-    /// How far the roll is: no batch is open, or the open one is at a step, or at its end.
+    /// Returns the stage of the run: no batch is open, or the open one is at a step, or at its end.
     pub fn stage(&self) -> Stage
         ensures { phase_of result ≡ (state_of self.now).phase }
     {
         self.work.stage()
     }
 
-    /// How the rows of a host are judged until now; a number that no host has has none.
+    /// Returns how the rows of a host have been judged so far; a number that no host has has no rows.
     pub fn counts(&self, host: HostId) -> Counts
         ensures value { host.index < length self.now.start → result ≡ counts_in ((state_of self.now).rows host.index) }
         ensures none { length self.now.start ≤ host.index → result ≡ counts_in [] }
@@ -118,22 +118,22 @@ impl<'f> Kernel<'f> {
         }
     }
 
-    /// How many hosts of the batch have not reported the present step, which is due on them. Time linear in the batch.
+    /// Returns how many hosts of the batch have yet to report the current step, which is due on them. Takes time linear in the batch.
     pub fn due(&self) -> usize
         ensures { result ≡ count_by (is_awaited_in (roll_of self.now) (state_of self.now)) (state_of self.now).batch }
     {
         self.work.awaited()
     }
 
-    /// How many claims are out.
+    /// Returns how many claims are out.
     pub fn out(&self) -> usize
         ensures { result ≡ length (state_of self.now).out }
     {
         self.work.out()
     }
 
-    /// How many events are still to come in the open batch but for claims and their reports: its barriers and its closing; and the
-    /// reports of the claims that are out.
+    /// Returns how many events the open batch still needs: its barriers, its closing and the reports of the claims that are out. Claims yet
+    /// to be made, and their reports, are not counted.
     pub(crate) fn owed(&self) -> usize
         ensures { result ≡ owed_by (roll_of self.now) (state_of self.now) }
     {

@@ -1,4 +1,4 @@
-//! A worker gives a host back.
+//! A worker returns a host.
 ghost use Rattle.std.specs.Prelude.{◌≡◌, ◌<◌, ◌^◌, Decides, IfErr, IfOk, OnErr, OnOk, cond, length};
 ghost use Rattle.fleet_states.specs.declared.status.Status.TheVariants.{Failed, Running};
 ghost use Rattle.event_log.specs.Rolls.{Roll};
@@ -17,9 +17,9 @@ use event_log::{BatchWork, Entered, Stage};
 use fleet_states::Status;
 
 impl<'f> Kernel<'f> {
-    /// Enters how a step ended on a host, whose share rests until the batch is closed. Where no claim of this host and step with these
-    /// words, or this settled outcome, is out, it hands the `Completion` back and changes nothing. It answers what was found of the row, and
-    /// takes no memory.
+    /// Records how a step ended on a host, and returns what its row was found to be. The kernel stores the host's share until the batch is
+    /// closed. Fails if no claim of this host and step with this command, or with this settled outcome, is out. Then returns the
+    /// `Completion` and changes nothing. Does not allocate.
     pub fn report(&mut self, completion: Completion) -> Result<Entered<'f>, Completion>
         ensures ok { OnOk result (self.new ≡ with_event self.old (event_in completion)) }
         ensures allowed { OnOk result (IsOut (roll_of self.old) (state_of self.old) completion) }
@@ -46,7 +46,7 @@ impl<'f> Kernel<'f> {
     }
 }
 
-/// Whether the kernel waits for just this.
+/// Reports whether the kernel waits for exactly this completion.
 fn is_out_for(work: &BatchWork<'_>, completion: &Completion) -> bool
     ensures { (roll : Roll) (state : State) → IsWorkOf roll state work.now → Decides result (IsOut roll state completion.now) }
 {
@@ -56,7 +56,7 @@ fn is_out_for(work: &BatchWork<'_>, completion: &Completion) -> bool
     }
 }
 
-/// Whether the host is out, with what ended in this way.
+/// Reports whether the host is out with the request that this completion ended.
 fn is_given(work: &BatchWork<'_>, completion: &Completion) -> bool
     ensures { Decides result (IsGivenOut work.now completion.now) }
 {
@@ -66,7 +66,7 @@ fn is_given(work: &BatchWork<'_>, completion: &Completion) -> bool
     }
 }
 
-/// What a host is that has reported, as long as its batch is open.
+/// Returns the status of a host that has reported, while its batch is open.
 fn status_after(failed: bool) -> Status
     ensures { result ≡ cond failed Failed Running }
 {

@@ -11,7 +11,7 @@ use Rattle.text_syntax.proofs.Tellings.{with_none}
 use Rattle.all_faults.specs.Inventories.{IsFleetPart}
 use Rattle.all_faults.proofs.fleet.inventory_part.Goals as goal
 
--- of a text that is read nothing is told
+-- no error is reported of a text that is read
 read_told : (text : List ℕ) (most : ℕ) (inventory : Inventory) (told : Told) → IsReadAs text inventory → told.faults.items ≡ [] → told.more ≡ 0 → AreToldOf text most told
 read_told text most inventory told is none no_more = record {
   breaches = [];

@@ -9,7 +9,7 @@ use Rattle.playbook_schema.specs.Known.{known}
 use Rattle.playbook_schema.specs.Names.{once}
 use Rattle.all_faults.proofs.pattern_names.add_pattern.Given as goal
 
--- what is left to be told
+-- what remains to be reported
 abbrev pub invariant-loop-part : goal.invariant-loop-part
 invariant-loop-part l = record {
   text : shadow (Utf8 l.rest);

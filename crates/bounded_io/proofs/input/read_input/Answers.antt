@@ -1,4 +1,4 @@
--- The read that goes past the bound counts too, and so does one for which no memory is left.
+-- The read that exceeds the bound counts too, and so does one for which no memory is left.
 use Rattle.std.proofs.Common.{ℕ, ◌++◌, take, vec_items, arith, length-append, length-take}
 use Rattle.std.proofs.KnownBytes.{Consumes-trans}
 use Rattle.bounded_io.proofs.input.read_input.Goals as goal

@@ -1,4 +1,4 @@
--- What is held is what the reader gave; each turn takes some more.
+-- The input so far is what the reader returned; each iteration reads some more.
 use Rattle.std.proofs.Common.{◌≡◌, ◌-◌, ◌≤◌, vec_len, vec_items}
 use Rattle.std.specs.Io.KnownBytes.{Consumes}
 use Rattle.bounded_io.specs.declared.input.TheConstants.{MAX_INPUT}

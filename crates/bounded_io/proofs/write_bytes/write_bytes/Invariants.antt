@@ -1,4 +1,4 @@
--- What went out so far stands at the front of the bytes; each turn sends some more.
+-- The bytes written so far are a prefix of the bytes; each iteration writes some more.
 use Rattle.std.proofs.Common.{◌-◌, ◌≤◌, length, take}
 use Rattle.std.specs.Io.KnownBytes.{Appends}
 use Rattle.bounded_io.proofs.write_bytes.write_bytes.Given as goal

@@ -5,7 +5,7 @@ use Rattle.cond.proofs.evaluation.+tree_holds.Given as goal
 abbrev pub decreases-tree_holds : goal.decreases-tree_holds
 decreases-tree_holds g l = goal.size-tree_holds g l
 
--- what is left decides
+-- the rest decides
 abbrev pub invariant-loop-part : goal.invariant-loop-part
 invariant-loop-part g l =
     any_of (map (tree_verdict l.text (g.E.Env.environment l.env)) (drop l.part-index l.part-items)) ≡ tree_verdict l.text (g.E.Env.environment l.env) l.tree

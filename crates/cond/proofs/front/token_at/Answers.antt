@@ -5,7 +5,7 @@ use Rattle.cond.proofs.Fronts.{at_end, of_word, of_number, of_high, of_minus, of
 use Rattle.cond.proofs.front.token_at.Goals as goal
 use Rattle.cond.proofs.front.token_at.Goals.{In-Some}
 
--- the first byte, as it was looked up
+-- the first byte, as it was read
 first : (c : In-Some) → slice_get c.args.text.now 0 ≡ Some c.in-Some.first
 first c =
     sym (ap (λ l. slice_get l 0) c.as_bytes.ensures.value) ∙ sym c.first.ensures.value ∙ sym c.copied.ensures ∙ c.in-Some.is

@@ -34,7 +34,7 @@ decreases-alternatives-others l = length (ahead l.source l.left)
 abbrev pub decreases-conjuncts-others : goal.decreases-conjuncts-others
 decreases-conjuncts-others l = length (ahead l.source l.left)
 
--- the trees so far are those of the parts before what is left
+-- the trees so far are those of the parts before the rest
 abbrev pub invariant-alternatives-others : goal.invariant-alternatives-others
 invariant-alternatives-others l =
     or_chains.Gathered (text_of l.source) (ahead l.source l.fn.from) (ahead l.source l.left) l.room l.parts.items × (length (ahead l.source l.left) ≤ length (ahead l.source l.fn.from))

@@ -10,7 +10,7 @@ use Rattle.fleet_index.specs.SortedNames.{name_cmp}
 use Rattle.fleet_index.proofs.SortedNamesLemmas.{is_rising-sorted_names, is_among-sorted_names, same_name-itself}
 use Rattle.domains.proofs.names.number_rows.Goals as goal
 
--- the name of an element stands among the names of the elements
+-- the name of an element is among the names of the elements
 among_names : {X : Type 0} (name : X → Name) (xs : List X) (i : ℕ) (x : X) → i < length xs → x ≡ get_or xs i x → is_among (name x) (map name xs) ≡ true
 among_names name xs i x within is =
     list_any_at (same_name (name x)) (map name xs) i (name x) (simp length-map within)

@@ -5,7 +5,7 @@ use Rattle.duplicate_keys.specs.Inside.{has, names_of}
 use Rattle.duplicate_keys.specs.Repeats.{Name, how_often, once_each}
 use Rattle.duplicate_keys.proofs.keys.list_twice.Given as goal
 
--- of the keys so far, each once, and those that stand more than once
+-- the keys so far, each once, and those that appear more than once
 abbrev pub invariant-loop-member : goal.invariant-loop-member
 invariant-loop-member l =
     let read = keys (members_view (take l.member-index l.members)) in

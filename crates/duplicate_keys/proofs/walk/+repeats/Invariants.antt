@@ -4,7 +4,7 @@ use Rattle.duplicate_keys.specs.Inside.{below_all, paths_told}
 use Rattle.duplicate_keys.specs.Repeats.{repeated_in_items, repeated_in_members}
 use Rattle.duplicate_keys.proofs.walk.+repeats.Given as goal
 
--- what is told, and what is repeated within the other elements
+-- what is reported so far, and the duplicates within the other elements
 abbrev pub invariant-push_in_items-loop-index : goal.invariant-push_in_items-loop-index
 invariant-push_in_items-loop-index l =
     (take 100 (paths_told l.told ++ below_all l.above.items (repeated_in_items l.index (items_view (drop l.index l.items))))

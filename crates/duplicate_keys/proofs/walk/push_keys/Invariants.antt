@@ -3,7 +3,7 @@ use Rattle.duplicate_keys.specs.Inside.{below_all, names_of, paths_told}
 use Rattle.duplicate_keys.specs.Repeats.{cut}
 use Rattle.duplicate_keys.proofs.walk.push_keys.Given as goal
 
--- those that are told, and the others
+-- the keys reported so far, and the others
 abbrev pub invariant-loop-key : goal.invariant-loop-key
 invariant-loop-key l =
     take 100 (paths_told l.told ++ below_all l.above (map cut (names_of (drop l.key-index l.key-items))))

@@ -1,6 +1,5 @@
 use Rattle.event_log.proofs.ColumnFronts.{on_track}
 use Rattle.event_log.proofs.laws.batches_are_on_track.Goals as goal
 
--- src/laws.rt:63:1
 pub returns : goal.returns
 returns c = on_track

@@ -1,6 +1,5 @@
 use Rattle.event_log.proofs.ChangeLaws.{failed_from_there}
 use Rattle.event_log.proofs.laws.hosts_are_failed_from_the_failing_row_on.Goals as goal
 
--- src/laws.rt:58:1
 pub returns : goal.returns
 returns c = failed_from_there

@@ -1,6 +1,5 @@
 use Rattle.event_log.proofs.OnceFronts.{no_report_twice}
 use Rattle.event_log.proofs.laws.no_host_reports_a_step_twice.Goals as goal
 
--- src/laws.rt:38:1
 pub returns : goal.returns
 returns c = no_report_twice

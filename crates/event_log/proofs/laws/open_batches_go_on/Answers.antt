@@ -1,6 +1,5 @@
 use Rattle.event_log.proofs.ProgressLaws.{go_on}
 use Rattle.event_log.proofs.laws.open_batches_go_on.Goals as goal
 
--- src/laws.rt:68:1
 pub returns : goal.returns
 returns c = go_on

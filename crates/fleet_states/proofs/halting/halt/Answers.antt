@@ -1,4 +1,4 @@
--- Without a percentage no step is past it.
+-- Without a percentage, no step exceeds it.
 use Rattle.std.proofs.Common.{None, Option, ℕ, sym, refl, ap, ◌∙◌}
 use Rattle.fleet_index.specs.Ids.{host_numbers}
 use Rattle.fleet_states.specs.Batches.{fails_in, halts_at}

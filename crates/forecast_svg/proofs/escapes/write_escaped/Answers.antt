@@ -7,7 +7,7 @@ use Rattle.bounded_io.proofs.WritingLemmas.{writes_two}
 use Rattle.forecast_svg.specs.Escapes.{escaped_char}
 use Rattle.forecast_svg.proofs.escapes.write_escaped.Goals as goal
 
--- one character more
+-- one more character
 one_more : (seen : List ℕ) (c : ℕ) → flat_map escaped_char seen ++ escaped_char c ≡ flat_map escaped_char (seen ++ c ∷ [])
 one_more seen c =
     sym (flat_map-append escaped_char seen (c ∷ []) ∙ ap (λ (l : List ℕ). flat_map escaped_char seen ++ l) (append-nil (escaped_char c)))

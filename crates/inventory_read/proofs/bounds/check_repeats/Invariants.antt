@@ -1,4 +1,4 @@
--- The names that were met, and the groups found whose names stood before.
+-- The names so far, and the groups found whose names occur before.
 use Rattle.std.proofs.Common.{◌≡◌, List, ℕ, map, take}
 use Rattle.std.specs.List.{list_any}
 use Rattle.group_tree.specs.Names.{same_name, is_among}

@@ -1,4 +1,4 @@
--- What is left to check and to list of the groups below, and that the names lead to the group again.
+-- What remains to be checked and listed of the groups below, and that the names lead to the group again.
 use Rattle.std.proofs.Common.{◌≡◌, ◌++◌, ◌≤◌, map}
 use Rattle.std.specs.List.{flat_map}
 use Rattle.serde_json.specs.Data.{depth, members_depth}

@@ -1,4 +1,4 @@
--- What is left to check and to list of the children.
+-- What remains to be checked and listed of the children.
 use Rattle.std.proofs.Common.{◌≡◌, ◌∷◌, ◌++◌, map, drop}
 use Rattle.std.specs.List.{flat_map}
 use Rattle.serde_json.specs.View.{view}

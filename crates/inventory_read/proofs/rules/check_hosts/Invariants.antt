@@ -1,4 +1,4 @@
--- What is left to check of the hosts.
+-- What remains to be checked of the hosts.
 use Rattle.std.proofs.Common.{◌≡◌}
 use Rattle.serde_json.specs.View.{members_view}
 use Rattle.text_syntax.specs.Shapes.{entries}

@@ -1,4 +1,4 @@
--- What is left to be asked; and what was joined so far, and what the rest of the list gives behind it.
+-- What remains to be checked; and what is joined so far, followed by what the rest of the list adds.
 use Rattle.std.proofs.Common.{◌≡◌, ◌++◌, List, map, drop}
 use Rattle.std.specs.List.{filter_map, flat_map}
 use Rattle.serde_json.specs.View.{view}

@@ -14,7 +14,7 @@ use Rattle.play_read.specs.Reads.{IsPlay}
 use Rattle.play_read.proofs.Lists.{as_many}
 use Rattle.play_read.proofs.document.read_document.Goals as goal
 
--- the checks of a document, by the test of its number
+-- the checks of a document, by the test of its number of plays
 by_number : (most : ℕ) (plays : List Data) (n : ℕ) (few : Bool) → n ≡ length plays → few ≡ nat_le n most
     → map Broken (bad_number most n) ++ (if few then checks_of_plays (nat_lt 1 (length plays)) 0 plays else []) ≡ map Broken (bad_number most (length plays)) ++ (if nat_le (length plays) most then checks_of_plays (nat_lt 1 (length plays)) 0 plays else [])
 by_number most plays n few counted tested =

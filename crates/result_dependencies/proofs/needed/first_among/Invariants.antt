@@ -4,7 +4,7 @@ use Rattle.result_dependencies.specs.Needs.{first_given, needed_in, needed_among
 use Rattle.result_dependencies.specs.Lookups.{has_gathered}
 use Rattle.result_dependencies.proofs.needed.first_among.Given as goal
 
--- what the plays that are left need first is the first
+-- the first name that the remaining plays need is the first one
 abbrev pub invariant-loop-play : goal.invariant-loop-play
 invariant-loop-play l =
     first_given (λ place (play : Play). needed_in (has_gathered l.earlier) play) l.play-index (drop l.play-index l.plays) ≡ needed_among (has_gathered l.earlier) l.plays

@@ -6,7 +6,7 @@ use Rattle.step_lints.specs.Hosts.{are_several}
 use Rattle.step_lints.specs.Inside.{differs_in}
 use Rattle.step_lints.proofs.differing.word_differs.Given as goal
 
--- what is left of the word decides
+-- the rest of the word decides
 abbrev pub invariant-loop-part : goal.invariant-loop-part
 invariant-loop-part l =
     shadow (Utf8 l.rest)

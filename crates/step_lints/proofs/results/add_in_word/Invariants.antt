@@ -6,7 +6,7 @@ use Rattle.step_lints.specs.Inside.{has_missed}
 use Rattle.step_lints.specs.Results.{whole_in_word}
 use Rattle.step_lints.proofs.results.add_in_word.Given as goal
 
--- those that were found, and those of what is left of the word
+-- those that were found, and those of the rest of the word
 abbrev pub invariant-loop-part : goal.invariant-loop-part
 invariant-loop-part l =
     shadow (Utf8 l.rest)

@@ -1,4 +1,4 @@
--- Each of the five counts takes the row where it passes.
+-- Each of the five counts counts the row if it passes.
 use Rattle.std.proofs.Common.{ap}
 use Rattle.host_track.specs.Counting.{counts_as_ok, counts_as_changed, is_failed, is_skipped, is_ignored}
 use Rattle.host_track.specs.declared.counts.Counts.{Counts}

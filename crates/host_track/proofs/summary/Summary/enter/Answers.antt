@@ -1,4 +1,4 @@
--- The parts of the summary after a row, each from the call that makes it.
+-- The parts of the summary after a row, each from the call that computes it.
 use Rattle.std.proofs.Common.{◌≡◌, ◌||◌, ◌∙◌, Bool, List, ap, arith, length}
 use Rattle.std.proofs.lemmas.List.{with_items_is}
 use Rattle.std.specs.Vec.{with_items}

@@ -4,7 +4,7 @@ use denote.Shadow.{shadow}
 use Rattle.lint_rules.specs.Kinds.{allows}
 use Rattle.lint_rules.proofs.allowed.Allowed.allows.Given as goal
 
--- what is left decides
+-- the rest decides
 abbrev pub invariant-loop-part : goal.invariant-loop-part
 invariant-loop-part l = shadow (Utf8 l.rest) × (allows l.rest l.fn.kind ≡ allows l.self l.fn.kind)
 

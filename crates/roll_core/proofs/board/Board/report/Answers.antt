@@ -18,7 +18,7 @@ invariant_of-self-2 g c =
     let old = c.self.inside in
     let completion = c.done.inside.completion in
     let may = g.R.Runner.may old.runner.now in
-    -- what the runner keeps it keeps in this world
+    -- the runner's laws also hold in this world
     let laws = g.met.R.Runner g.world.𝓛 g.world.𝓜 g.world.𝓡 ((λ s x. x), (λ x. x), (λ x. x), λ x. x) in
     let alike = c.same.ensures.0 c.if-not-same.false in
     let mine = end_by (g.R.Runner.may c.done.inside.runner.now) may (λ work ending. (laws.one_relation old.runner.now c.done.inside.runner.now alike work ending).1) completion.host completion.step completion.request completion.ending c.done.invariant in
