@@ -153,7 +153,7 @@ printf '{"all":{"hosts":{"a":null,"b":null}}}' >"$work/srv/fleet.json"
 printf '[{"hosts":"all","serial":1,"tasks":[{"command":"true"}]}]' >"$work/srv/roll.json"
 # rolls WHAT COMMAND: a shell runs it to its end, and prints a recap, or states, that have an end with all well
 rolls() {
-    echo "$2" | sed "s|/srv/fleet|$work/srv|; s|/var/lib/rolls|$work/rolls|" >"$work/command"
+    echo "$2" | sed "s|/srv/fleet|$work/srv|; s|/var/lib/rolls|$work/rolls|g" >"$work/command"
     (cd "$work/srv" && unset ROLLOUT && PATH=$work/bin:$PATH sh -e "$work/command") >"$work/said" 2>&1 </dev/null
     status=$?
     [ "$status" -eq 0 ] && [ "$(tail -n 1 "$work/said")" = 'end finished' ] && pass || fail "$1: status $status, $(tail -n 3 "$work/said")"
