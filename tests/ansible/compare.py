@@ -73,8 +73,8 @@ def unmarked(plays):
     return [[{host: track.replace("j", "i") for host, track in batch.items()} for batch in play if batch] for play in plays if any(play)]
 
 
-def alike(run, theirs):
-    """The tracks of both."""
+def both(run, theirs):
+    """The tracks of rollout and of Ansible, as text."""
     return tracks.written(unmarked(run.plays)), tracks.written(unmarked(theirs))
 
 
@@ -85,7 +85,10 @@ def sound(run, case):
         if opened != run.opened():
             return f"the {name} opened {opened}, -v says {run.opened()}"
     closed = [line.removeprefix("closed: ").split() for line in run.journal if line.startswith("closed: ")]
-    for batch, states in zip((batch for play in run.plays for batch in play), closed, strict=True):
+    opened = [batch for play in run.plays for batch in play]
+    if len(closed) != len(opened):
+        return f"the journal closed {len(closed)} batches of {len(opened)}"
+    for batch, states in zip(opened, closed):
         for state in states:
             if ("f" in batch[state.split(":")[1]]) != state.startswith("failed:"):
                 return f"the journal closed {state}"
@@ -100,7 +103,7 @@ def sound(run, case):
 
 
 def compare_same(run, _case, status, programs, theirs):
-    ours, wanted = alike(run, theirs)
+    ours, wanted = both(run, theirs)
     if ours != wanted:
         return f"it did {ours}, Ansible {wanted}"
     if run.counts != tracks.counted(theirs):
@@ -116,23 +119,22 @@ def compare_status(run, status):
     return f"its status is {run.status}, Ansible's {status}"
 
 
-def compare_hosts(run, theirs):
-    """What both did with a host is the same, as far as both went; a run that was not ended early did the same in full."""
+def compare_hosts(run, play, theirs):
+    """What both did with a host is the same, as far as both went, and in full if neither run ended early."""
     ours = {host: track for play in unmarked(run.plays) for batch in play for host, track in batch.items()}
     other = {host: track for play in unmarked(theirs) for batch in play for host, track in batch.items()}
     for host in ours.keys() & other.keys():
         if any(one != two and "-" not in (one, two) for one, two in zip(ours[host], other[host])):
             return f"{host} did {ours[host]}, with Ansible {other[host]}"
-    if run.end == "end finished" and ended_early(theirs) is False and ours != other:
+    if run.end == "end finished" and not ended_early(play, theirs[-1][-1]) and ours != other:
         return f"it did {ours}, Ansible {other}"
     return None
 
 
-def ended_early(plays):
-    """Whether the last batch of a play ended it: by all its hosts, or by `max_fail_percentage` (a host that didn't fail has a step left that others had)."""
-    last = plays[-1][-1]
-    reached = max(len(track.rstrip("-")) for track in last.values())
-    return all("f" in track for track in last.values()) or any("f" in track for track in last.values()) and reached < min(len(track) for track in last.values())
+def ended_early(play, batch):
+    """Whether this batch ended the play: all its hosts failed, or more than `max_fail_percentage` allows."""
+    failed = sum("f" in track for track in batch.values())
+    return failed == len(batch) or 100 * failed > play.get("max_fail_percentage", 100) * len(batch)
 
 
 def compare_dealt(run, case, _status, _programs, theirs):
@@ -143,7 +145,7 @@ def compare_dealt(run, case, _status, _programs, theirs):
     opened = [list(batch) for batch in run.plays[0]]
     if opened != wanted[: len(opened)] or run.end == "end finished" and opened != wanted:
         return f"it opened {opened}, its rule says {wanted}"
-    return compare_hosts(run, theirs)
+    return compare_hosts(run, play, theirs)
 
 
 def compare_limits(run, case, status, programs, theirs):
@@ -158,12 +160,12 @@ def compare_limits(run, case, status, programs, theirs):
         failed |= {host for host, track in batch.items() if "f" in track}
     if not failed:
         return compare_same(run, case, status, programs, theirs)
-    return compare_hosts(run, theirs)
+    return compare_hosts(run, case.playbook[0], theirs)
 
 
 def compare_worked(run, case, _status, _programs, theirs):
     """What the row says, which Ansible doesn't do."""
-    ours, other = alike(run, theirs)
+    ours, other = both(run, theirs)
     if ours != case.expected:
         return f"it did {ours}, its rule says {case.expected}"
     return None if other != ours else f"Ansible does that too: {other}"
@@ -173,8 +175,11 @@ def compare(program, case, record):
     """What is wrong with rollout's run of a case, or None."""
     if record is None or record[1] != draw.digest(case):
         return "there is no record of these inputs: tests/ansible/record makes it"
-    with tempfile.TemporaryDirectory() as folder:
-        run = Run(program, case, pathlib.Path(folder) / case.name)
+    try:
+        with tempfile.TemporaryDirectory() as folder:
+            run = Run(program, case, pathlib.Path(folder) / case.name)
+    except (OSError, subprocess.SubprocessError, LookupError, ValueError) as error:
+        return f"its run can't be read: {error!r}"
     judge = {"same": compare_same, "dealt": compare_dealt, "limits": compare_limits}.get(case.rule, compare_worked)
     return sound(run, case) or judge(run, case, int(record[2]), record[3], tracks.read(record[4]))
 

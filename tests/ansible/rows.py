@@ -1,4 +1,4 @@
-"""Worked rows: plays of which rollout makes something else than Ansible, by rule, with what rollout does in the form of records."""
+"""Worked rows: plays that rollout runs differently from Ansible on purpose, by rule, with what rollout does in the form of records."""
 
 
 def hosts(names, variables=None):
@@ -24,7 +24,7 @@ SKIPPED = {"command": act("1"), "register": "r", "when": False}
 
 
 def same_text(inserted, written):
-    """A step that succeeds if what is inserted is `written`; that is given letter by letter, so that nobody changes it."""
+    """A step that succeeds if what is inserted is `written`; it is given in octal, so that neither program changes it."""
     octal = "".join(f"\\{byte:03o}" for byte in written.encode())
     return {"command": {"argv": ["sh", "-c", f'test "$1" = "$(printf "{octal}")"', "sh", inserted]}}
 
@@ -71,7 +71,7 @@ ROWS = {
     # A whole result equals nothing, and has no text.
     "whole": [
         (ONE, [play("a", RAN, when("r == r"))], "a:cs"),
-        (ONE, [play("a", RAN, {"command": act("2", "{{ r }}")})], "a:cf"),
+        (ONE, [play("a", RAN, {"command": {"argv": ["true", "{{ r }}"]}})], "a:cf"),
     ],
     # Values of different kinds are not equal.
     "kinds": [(ONE, [play("a", when("flag == number"), when("true != 1"))], "a:sc"), (ONE, [play("a", RAN, when("r.changed == 1"))], "a:cs")],
