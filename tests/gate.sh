@@ -28,7 +28,7 @@ if [ $# -eq 0 ]; then
     counted rt ci
     # It left the tests of each crate built: where a script misses one, that is a failure.
     export ALL_BUILT=yes
-    set -- cli inventories playbooks course groups words check expect json json_events lint slips faults explain picture journal broken hostile memory workers once programs children services stops supervise resume state telling told screen noted rehearsal outlook drawn readme examples recipes forty_hosts deb installed completions house
+    set -- cli inventories playbooks course groups words check expect json json_events lint slips faults explain picture journal broken hostile memory workers once programs children services stops supervise resume state telling told screen noted ansible rehearsal outlook drawn readme examples recipes forty_hosts deb installed completions house
 fi
 for script in "$@"; do
     [ -e "tests/$script.sh" ] || continue

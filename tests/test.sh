@@ -15,7 +15,7 @@ trap 'exit 130' INT TERM
 jobs=${JOBS:-$(nproc)}
 ROLLOUT=$top/crates/rollout/out/rollout
 # Those that take longest first. `once` needs no program, and two processor minutes of `rt`.
-scripts='drawn children programs journal hostile broken services memory noted playbooks inventories told cli stops supervise resume state telling screen readme workers rehearsal outlook course groups words check expect json json_events lint slips faults explain picture examples recipes forty_hosts deb installed completions house'
+scripts='drawn children programs journal hostile broken services memory noted ansible playbooks inventories told cli stops supervise resume state telling screen readme workers rehearsal outlook course groups words check expect json json_events lint slips faults explain picture examples recipes forty_hosts deb installed completions house'
 left='once'
 if [ ! -x "$ROLLOUT" ]; then
     ROLLOUT=$top/crates/rollout/out/look/rollout
