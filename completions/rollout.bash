@@ -123,7 +123,7 @@ _rollout() {
     case $command in
     limits) most=1 options=(--expect --from --up --changed-inputs --json -v --verbose -h --help) ;;
     plan) most=2 options=(--forecast --failing --groups --color --picture --commands --expect --from --up --changed-inputs --json -v --verbose -h --help) ;;
-    run) most=2 options=(--forks -v --verbose --quiet --stop-file --journal --resume --up --changed-inputs --lock-file --no-lock --strict --json -h --help) ;;
+    run) most=2 options=(-f --forks -v --verbose --quiet --stop-file --journal --resume --up --changed-inputs --lock-file --no-lock --strict --json -h --help) ;;
     rehearse) most=2 options=(--strict --from --up --changed-inputs --json -v --verbose -h --help) ;;
     state) most=2 options=(--changed-inputs -h --help) ;;
     check) most=3 options=(-h --help) ;;
@@ -144,7 +144,7 @@ _rollout() {
             [[ $files -gt 1 ]] || inventory=${words[i]}
         elif [[ ${words[i]} == -- ]]; then
             ends=yes
-        elif [[ " ${options[*]} " == *" ${words[i]} "* && ${words[i]} == --@(forks|stop-file|journal|lock-file|resume|up|failing|color|picture|expect|allow|from) ]]; then
+        elif [[ " ${options[*]} " == *" ${words[i]} "* && ${words[i]} == @(-f|--@(forks|stop-file|journal|lock-file|resume|up|failing|color|picture|expect|allow|from)) ]]; then
             wants=${words[i]}
         fi
     done
@@ -155,7 +155,7 @@ _rollout() {
         current=${current#*=}
     fi
     case $wants in
-    --forks)
+    -f | --forks)
         compopt -o nosort 2>/dev/null
         _rollout_offer {1..64}
         ;;

@@ -25,7 +25,7 @@ function __rollout_files
             printf '%s\n' $word
         else if test $word = --
             set ends 1
-        else if test $words[2] = run; and contains -- $word --forks --stop-file --journal --lock-file --resume --up
+        else if test $words[2] = run; and contains -- $word -f --forks --stop-file --journal --lock-file --resume --up
             set wants 1
         else if test $words[2] = plan; and contains -- $word --failing --color --picture --expect --from --up
             set wants 1
@@ -119,7 +119,7 @@ complete -c rollout -n '__rollout_of plan' -l json -d 'Print the plan, and any e
 complete -c rollout -n '__rollout_of plan' -s v -l verbose -d 'Name skipped hosts, and add a hint to errors (default on a terminal)'
 complete -c rollout -n '__rollout_of plan' -s h -l help -d 'Print help'
 
-complete -c rollout -n '__rollout_of run' -l forks -x -k -a '(seq 64)\t' -d 'Work on up to N hosts at once, 1 to 64'
+complete -c rollout -n '__rollout_of run' -s f -l forks -x -k -a '(seq 64)\t' -d 'Work on up to N hosts at once, 1 to 64'
 complete -c rollout -n '__rollout_of run' -s v -l verbose -d 'Report every batch and step on standard error'
 complete -c rollout -n '__rollout_of run' -l quiet -d 'Show no progress, even on a terminal (-v overrides)'
 complete -c rollout -n '__rollout_of run' -l stop-file -r -F -d 'Stop before the next batch once FILE exists'

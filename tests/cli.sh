@@ -297,7 +297,7 @@ updated="$four
 $(for host in a b c d e; do counted $host 1 0 updated; done)
 end finished"
 rolled 'a run' 0 "$racks" "$all" "$updated"
-for words in 'run racks.json all.json' 'run --forks 64 racks.json all.json' 'run racks.json --forks=1 all.json' 'run -- racks.json all.json' 'run --stop-file -v racks.json --stop-file=racks.json all.json --stop-file --'; do
+for words in 'run racks.json all.json' 'run --forks 64 racks.json all.json' 'run racks.json --forks=1 all.json' 'run -f 64 racks.json all.json' 'run racks.json -f1 all.json' 'run -- racks.json all.json' 'run --stop-file -v racks.json --stop-file=racks.json all.json --stop-file --'; do
     (
         cd "$work" || exit 1
         "$rollout" $words </dev/null >out 2>errors
@@ -317,7 +317,7 @@ told=$(
         echo "waiting=3 at=N open: a d${newline}waiting=1 at=N open: b e${newline}waiting=0 at=N open: c"
     } | LC_ALL=C sort
 )
-for words in 'run --quiet -v racks.json all.json' 'run -v racks.json all.json --quiet' 'run -v racks.json all.json' 'run racks.json --verbose all.json' 'run racks.json all.json -v' 'run --forks 64 -v racks.json all.json' 'run -v racks.json --forks=1 -v all.json --verbose --' 'run --verbose -- racks.json all.json'; do
+for words in 'run --quiet -v racks.json all.json' 'run -v racks.json all.json --quiet' 'run -v racks.json all.json' 'run racks.json --verbose all.json' 'run racks.json all.json -v' 'run -vv racks.json all.json' 'run -vf 64 racks.json all.json' 'run --forks 64 -v racks.json all.json' 'run -v racks.json --forks=1 -v all.json --verbose --' 'run --verbose -- racks.json all.json'; do
     (
         cd "$work" || exit 1
         "$rollout" $words </dev/null >out 2>errors.raw
@@ -566,7 +566,7 @@ Arguments:
   <PLAY>  Playbook file (JSON)
 
 Options:
-      --forks <N>         Work on up to N hosts at once, 1 to 64 [default: 5]
+  -f, --forks <N>         Work on up to N hosts at once, 1 to 64 [default: 5]
   -v, --verbose           Report every batch and step on standard error
       --quiet             Show no progress, even on a terminal (-v overrides)
       --stop-file <FILE>  Stop before the next batch once FILE exists
@@ -682,8 +682,8 @@ bad 'plan --quiet a b' 'rollout plan [OPTIONS] <INV> <PLAY>' "unexpected argumen
 bad run 'rollout run <INV> <PLAY>' "the following required arguments were not provided:$newline  <INV>$newline  <PLAY>"
 bad 'run a' 'rollout run <INV> <PLAY>' "the following required arguments were not provided:$newline  <PLAY>"
 bad 'run a b c' 'rollout run [OPTIONS] <INV> <PLAY>' "unexpected argument 'c' found"
-bad 'plan -vv a b' 'rollout plan [OPTIONS] <INV> <PLAY>' "the argument '--verbose' cannot be used multiple times"
-bad 'run -vv a b' 'rollout run [OPTIONS] <INV> <PLAY>' "the argument '--verbose' cannot be used multiple times"
+bad 'run --forks 3 -f4 a b' 'rollout run [OPTIONS] <INV> <PLAY>' "the argument '--forks <N>' cannot be used multiple times"
+bad 'plan -f 3 a b' 'rollout plan [OPTIONS] <INV> <PLAY>' "unexpected argument '-f' found"
 # lacks OPTION VALUE WORDS: the option stands last, without its value
 lacks() {
     run $3 "--$1"
@@ -799,7 +799,7 @@ helped() {
         fail "the line '$1': status $status, $(head -n 3 "$work/errors")"
     fi
 }
-for words in 'limits -v a --verbose' 'plan --commands a --color never b --commands -v' 'plan -v a b' 'rehearse a --verbose b --strict -v' 'run -v a b'; do
+for words in 'limits -v a --verbose' 'plan --commands a --color never b --commands -v' 'plan -v a b' 'plan -vv a b' 'rehearse a --verbose b --strict -v' 'run -v a b'; do
     helped "$words"
 done
 bad 'run --journal --resume c a b' 'rollout run [OPTIONS] <INV> <PLAY>' "unexpected argument 'b' found"

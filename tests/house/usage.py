@@ -132,11 +132,11 @@ def of_bash():
     offered = re.findall(r"^ +(?:\*\)|\[\[.*\|\|) _rollout_offer ([a-z ]+?)(?: ;;)?$", text, re.M)
     for command in " ".join(offered).split():
         usage.command(command)
-    values = " ".join(re.findall(r"== --@\(([\w|-]+)\)", text)).replace("|", " ").split()
+    values = ["--" + name for name in " ".join(re.findall(r"== --@\(([\w|-]+)\)", text)).replace("|", " ").split()] + re.findall(r"== @\((-\w)\|", text)
     lists = [(TOP, re.search(r"-\*\) _rollout_offer ([- \w]+) ;;", text)[1]), *re.findall(r"^    (\w+)\) most=\d options=\(([^)]*)\)", text, re.M)]
     for command, names in lists:
         for name in names.split():
-            usage.option(command, [name], "VALUE" if name[2:] in values else "")
+            usage.option(command, [name], "VALUE" if name in values else "")
     return usage
 
 
@@ -149,8 +149,8 @@ def of_zsh():
     parts = [(TOP, re.search(r"^    _arguments -C .*$", text, re.M)[0]), *re.findall(r"^        (\w+)\)\n(.*?)^            ;;", text, re.S | re.M)]
     for command, part in parts:
         usage.command(command)
-        for short, name, alone, value, about in re.findall(r"(?:\{(-\w),(--[\w-]+)\}'|['\"]\*?(--[\w-]+)(=?))\[([^\]]*)\]", part.replace("$help", helps)):
-            usage.option(command, [each for each in (short, name, alone) if each], "VALUE" if value else "", about)
+        for short, name, signed, alone, value, about in re.findall(r"(?:\{(-\w)\+?,(--[\w-]+)(=?)\}'|['\"]\*?(--[\w-]+)(=?))\[([^\]]*)\]", part.replace("$help", helps)):
+            usage.option(command, [each for each in (short, name, alone) if each], "VALUE" if signed or value else "", about)
     return usage
 
 

@@ -1,13 +1,11 @@
 -- What a text writes as a number of forks.
-use Rattle.std.proofs.Common.{◌≡◌, ◌<◌, ◌≤◌, ◌^◌, ◌&&◌, ℕ, Bool, true, false, cond, List, [], ◌∷◌, length, Option, Some, None, Result, Ok, Err, refl, arith, nat_lt}
+use Rattle.std.proofs.Common.{◌≡◌, ◌<◌, ◌≤◌, ◌^◌, ◌&&◌, ℕ, Bool, true, false, cond, List, [], ◌∷◌, length, Some, None, refl, arith, nat_lt}
 use Rattle.std.specs.Prelude.{nat_le}
 use Rattle.std.specs.List.{list_all}
 use Rattle.std.specs.Char.{digit_value}
-use Rattle.std.specs.Str.Parse.{AllDigits, IsNumeral, ParsesUnsigned, digits_value, without_leading_plus}
+use Rattle.std.specs.Str.Parse.{AllDigits, IsNumeral, digits_value, without_leading_plus}
 use Rattle.std.proofs.lemmas.Bool.{lt-ltb, leb-true, ltb-true}
-use Rattle.std.specs.Prelude.{option_and_then}
 use Rattle.clap.proofs.WalkLemmas.{both}
-use Rattle.clap.specs.Matches.{ReadsOne}
 use Rattle.command_line.specs.Forks.{forks_in, in_range, is_number}
 
 digits_back : (ds : List ℕ) → AllDigits 10 ds → list_all (λ digit. nat_lt (digit_value digit) 10) ds ≡ true
@@ -43,12 +41,3 @@ forks_unread text unread = go (is_number (without_leading_plus text)) refl
     go : (number : Bool) → is_number (without_leading_plus text) ≡ number → None ≡ cond number (in_range (digits_value 10 (without_leading_plus text))) None
     go false at = refl
     go true at = small (digits_value 10 (without_leading_plus text)) _ refl (λ fits. unread (number_from _ at, fits))
-
--- what `get_one` reads of a text that clap found, or of none
-module _ {E : Type 0} (G : List ℕ → Result ℕ E → Type 0) (parses : (text : List ℕ) (r : Result ℕ E) → G text r → ParsesUnsigned {E = E} 64 10 text r) where
-  pub forks_of_one : (text : Option (List ℕ)) (one : Option ℕ) → (text ≡ None → one ≡ None) → ((t : List ℕ) → text ≡ Some t → ReadsOne G t one)
-      → option_and_then in_range one ≡ option_and_then forks_in text
-  forks_of_one None None none value = refl
-  forks_of_one None (Some n) none value = let bad : Some n ≡ None = none refl in cc
-  forks_of_one (Some text) (Some n) none value = let read = parses text (Ok n) (value text refl) in forks_read text n read.0.0 read.1
-  forks_of_one (Some text) None none value = let read = value text refl in forks_unread text (parses text (Err read.0) read.1)

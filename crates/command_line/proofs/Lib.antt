@@ -1,12 +1,3 @@
-pub mod AcceptedLemmas
-pub mod AskedLemmas
-pub mod GivenLemmas
-pub mod ReadingLemmas
 pub mod ForksLemmas
-pub mod FoundLemmas
-pub mod OptionLemmas
-pub mod RefusedLemmas
-pub mod RunLemmas
-pub mod RunLevel
-pub mod RunShapes
-pub mod RunWordsLemmas
+pub mod RequestLemmas
+pub mod RuleLemmas

@@ -1,15 +1,9 @@
 pub mod Answers
-pub mod Asked
 pub mod Clashes
 pub mod Faults
 pub mod Forks
+pub mod Found
 pub mod Messages
-pub mod Operands
-pub mod OptionNames
-pub mod OptionReads
-pub mod Options
-pub mod OptionsOf
-pub mod Runs
-pub mod Syntax
+pub mod Rules
 pub mod Wishes
 pub mod Words

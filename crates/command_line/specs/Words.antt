@@ -1,90 +1,89 @@
 -- What a line of words says, the program's own name left out.
-use Rattle.std.specs.Prelude.{◌≡◌, ◌≢◌, Bool, true, false, ◌||◌, List, [], ◌∷◌}
-use Rattle.std.specs.Prelude.{Option, Some, None, is_some, codes, ⊤}
-use Rattle.clap.specs.Words.{IsAmong, fault_of}
+use Rattle.std.specs.Prelude.{◌≡◌, Bool, true, false, List, [], ◌∷◌, Option, Some, None, codes, string_bytes, ⊤}
+use Rattle.std.specs.List.{list_all}
+use Rattle.clap.specs.Words.{Row, Text, first_of}
+use Rattle.command_line.specs.Answers.{IsFileOf}
+use Rattle.command_line.specs.Clashes.{text_of}
+use Rattle.command_line.specs.Found.{Word, forks_of, is_value_from}
 use Rattle.command_line.specs.Messages as messages
 use Rattle.command_line.specs.Messages.{IsAskedFor}
-use Rattle.command_line.specs.Syntax.{rollout}
+use Rattle.command_line.specs.Rules.{clash_of}
+use Rattle.command_line.specs.Wishes.{Wish, wish_of}
 use Rattle.command_line.specs.declared.command.Line.{Line}
 use Rattle.command_line.specs.declared.command.Line.TheVariants.{Limits, Plan, Run, Rehearse, State, Check, Lint, Explain, Print}
+use Rattle.command_line.specs.declared.command.Source.{Source}
+use Rattle.command_line.specs.declared.command.Source.TheVariants.{StandardInput}
 use Rattle.command_line.specs.declared.fault.LineFault.{LineFault}
-use Rattle.command_line.specs.declared.message.Message.{Message}
 use Rattle.command_line.specs.declared.fault.LineFault.TheVariants.{BadLine, Apart, Unexplained, Memory}
-use Rattle.command_line.specs.declared.command.Source.TheVariants.{StandardInput, File}
-use Rattle.command_line.specs.Asked.{ParsedCommand, asked_by, line_asks}
-use Rattle.command_line.specs.declared.option_conflict.OptionConflict.{OptionConflict}
-use Rattle.command_line.specs.Wishes.{clash_in, plain}
-use Rattle.command_line.specs.Operands.{Word}
+use Rattle.command_line.specs.declared.origin.TheConstants.{VALUED}
+
+-- the sources are the files that were found for the inventory and for this argument
+abbrev pub AreFilesOf : List Row → Text → Source → Source → Type 0
+AreFilesOf rows id inventory file = IsFileOf rows (codes "INV") inventory × IsFileOf rows id file
+
+-- the source is the file that was found for this argument, if any was
+abbrev pub IsAnyFileOf : List Row → Text → Option Source → Type 0
+IsAnyFileOf rows id None = first_of id rows ≡ None
+IsAnyFileOf rows id (Some file) = IsFileOf rows id file
+
+-- the line is of the command of this name, with the files that clap found for it: each is the word that it found, byte by byte
+abbrev pub IsLine : Text → List Row → Line → Type 0
+IsLine name rows (Limits inventory) = (name ≡ codes "limits") × IsFileOf rows (codes "INV") inventory
+IsLine name rows (Plan inventory playbook) = (name ≡ codes "plan") × AreFilesOf rows (codes "PLAY") inventory playbook
+IsLine name rows (Run inventory playbook forks) =
+    (name ≡ codes "run") × AreFilesOf rows (codes "PLAY") inventory playbook × (forks_of rows ≡ Some forks)
+IsLine name rows (Rehearse inventory playbook) = (name ≡ codes "rehearse") × AreFilesOf rows (codes "PLAY") inventory playbook
+IsLine name rows (State inventory journal) = (name ≡ codes "state") × AreFilesOf rows (codes "JOURNAL") inventory journal
+IsLine name rows (Check inventory playbook plan) =
+    (name ≡ codes "check") × AreFilesOf rows (codes "PLAY") inventory playbook × IsFileOf rows (codes "PLAN") plan
+IsLine name rows (Lint inventory playbook) = (name ≡ codes "lint") × IsFileOf rows (codes "INV") inventory × IsAnyFileOf rows (codes "PLAY") playbook
+IsLine name rows (Explain word) = (name ≡ codes "explain") × (first_of (codes "NUMBER|RULE") rows ≡ Some (string_bytes word))
+IsLine name rows (Print message) = ⊥
+
+-- each value that clap found stands in the words
+abbrev pub IsFrom : List Word → List Row → Type 0
+IsFrom words rows = list_all (λ id. is_value_from words rows id.now) VALUED.now ≡ true
+
+-- the line, and what is asked for beside it, are all that clap found for a command, whose values stand in the words and whose options go together
+pub record IsFound (words : List Word) (line : Line) (wish : Wish) : Type 0 where
+  pub name : Text
+  pub rows : List Row
+  pub origin : IsFrom words rows
+  pub apart : clash_of name rows ≡ None
+  pub is_line : IsLine name rows line
+  pub is_wish : wish ≡ wish_of rows
+
+-- the words say this line, and ask for this beside it. No words at all say `limits` with the inventory on standard input; beside a text that clap has for them nothing
+-- is asked for
+abbrev pub Says : List Word → Line → Wish → Type 0
+Says words (Limits StandardInput) wish = (words ≡ []) × (wish ≡ wish_of [])
+Says words (Print message) wish = IsAskedFor (messages.kind_of message) × (wish ≡ wish_of [])
+Says words line wish = IsFound words line wish
+
+-- what clap found is refused so: for want of memory, by the first rule that its options break, or since it is less than the line needs
+abbrev pub IsApart : Option Text → LineFault → Type 0
+IsApart clash Memory = ⊤
+IsApart clash (BadLine message) = ⊥
+IsApart clash (Apart told) = clash ≡ Some (text_of told)
+IsApart clash Unexplained = ⊤
+
+-- a rule on the options that clap found says this
+pub record BreaksRule (text : Text) : Type 0 where
+  pub name : Text
+  pub rows : List Row
+  pub breaks : clash_of name rows ≡ Some text
+
+-- the words are refused so: for want of memory, as clap explains, by the first rule that their options break, or since clap found less than the line needs. No line
+-- without words is refused, and no text that is asked for explains a bad line.
+abbrev pub Refuses : LineFault → Type 0
+Refuses Memory = ⊤
+Refuses (BadLine message) = IsAskedFor (messages.kind_of message) → ⊥
+Refuses (Apart clash) = BreaksRule (text_of clash)
+Refuses Unexplained = ⊤
 
 abbrev pub is_empty : List Word → Bool
 is_empty [] = true
 is_empty (word ∷ words) = false
 
--- the words are a command: none of them, or a command's name with its operands, and the forks of a run
-abbrev pub is_command : List Word → Bool
-is_command words = is_empty words || is_some (asked_by words)
-
--- the text is one that clap has for the words, by the program's syntax
-abbrev pub IsTextFor : List Word → Message → Type 0
-IsTextFor words message = IsAmong (messages.kind_of message) (fault_of rollout words)
-
--- the words ask for this
-abbrev pub AskFor : List Word → Option ParsedCommand → Type 0
-AskFor words None = ⊥
-AskFor words (Some wanted) = asked_by words ≡ Some wanted
-
--- the words say this line; no command prints a text in place of what it does
-abbrev pub Says : List Word → Line → Type 0
-Says words (Limits StandardInput) = words ≡ []
-Says words (Print message) = (is_command words ≡ false) × IsAskedFor (messages.kind_of message) × IsTextFor words message
-Says words (Limits (File file)) = AskFor words (line_asks (Limits (File file)))
-Says words (Plan inventory playbook) = AskFor words (line_asks (Plan inventory playbook))
-Says words (Run inventory playbook forks) = AskFor words (line_asks (Run inventory playbook forks))
-Says words (Rehearse inventory playbook) = AskFor words (line_asks (Rehearse inventory playbook))
-Says words (State inventory journal) = AskFor words (line_asks (State inventory journal))
-Says words (Check inventory playbook plan) = AskFor words (line_asks (Check inventory playbook plan))
-Says words (Lint inventory playbook) = AskFor words (line_asks (Lint inventory playbook))
-Says words (Explain word) = AskFor words (line_asks (Explain word))
-
--- lines that ask for the help or the version
-abbrev pub requests : List (List Word)
-requests =
-    (codes "--help" ∷ []) ∷ (codes "-h" ∷ []) ∷ (codes "--version" ∷ []) ∷ (codes "-V" ∷ [])
-    ∷ (codes "limits" ∷ codes "--help" ∷ []) ∷ (codes "limits" ∷ codes "-h" ∷ [])
-    ∷ (codes "plan" ∷ codes "--help" ∷ []) ∷ (codes "plan" ∷ codes "-h" ∷ [])
-    ∷ (codes "run" ∷ codes "--help" ∷ []) ∷ (codes "run" ∷ codes "-h" ∷ [])
-    ∷ (codes "rehearse" ∷ codes "--help" ∷ []) ∷ (codes "rehearse" ∷ codes "-h" ∷ [])
-    ∷ (codes "state" ∷ codes "--help" ∷ []) ∷ (codes "state" ∷ codes "-h" ∷ [])
-    ∷ (codes "check" ∷ codes "--help" ∷ []) ∷ (codes "check" ∷ codes "-h" ∷ [])
-    ∷ (codes "lint" ∷ codes "--help" ∷ []) ∷ (codes "lint" ∷ codes "-h" ∷ [])
-    ∷ (codes "explain" ∷ codes "--help" ∷ []) ∷ (codes "explain" ∷ codes "-h" ∷ []) ∷ []
-
--- the words are none of these lines
-abbrev pub IsNoneOf : List Word → List (List Word) → Type 0
-IsNoneOf words [] = ⊤
-IsNoneOf words (line ∷ lines) = (words ≢ line) × IsNoneOf words lines
-
--- the words are a bad line that a text of clap's explains, which is none that is asked for
-pub record Explains (words : List Word) (message : Message) : Type 0 where
-  pub unasked : IsAskedFor (messages.kind_of message) → ⊥
-  pub text : IsTextFor words message
-
--- the words may be refused so: no command but for want of memory, which no line without words takes, and no request for a
--- text as a bad line. A bad line is explained by clap, but for one that clap would take.
-abbrev pub Refuses : List Word → LineFault → Type 0
-Refuses words Memory = is_empty words ≡ false
-Refuses words (BadLine message) = (is_command words ≡ false) × IsNoneOf words requests × Explains words message
-Refuses words (Apart clash) = ⊥
-Refuses words Unexplained = (is_command words ≡ false) × IsNoneOf words requests × (fault_of rollout words ≡ [])
-
--- the same, where the words hold options that don't go together: that is told where clap would take them
-abbrev pub RefusesWith : Option OptionConflict → List Word → LineFault → Type 0
-RefusesWith None words fault = Refuses words fault
-RefusesWith (Some clash) words Memory = Refuses words Memory
-RefusesWith (Some clash) words (BadLine message) = Refuses words (BadLine message)
-RefusesWith (Some clash) words (Apart other) = Refuses words Unexplained × (other ≡ clash)
-RefusesWith (Some clash) words Unexplained = ⊥
-
--- a line with its options may be refused so
 abbrev pub RefusesLine : List Word → LineFault → Type 0
-RefusesLine words fault = RefusesWith (clash_in words) (plain words) fault
+RefusesLine words fault = (is_empty words ≡ false) × Refuses fault

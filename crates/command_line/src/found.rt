@@ -1,121 +1,74 @@
-//! The files and the forks that clap found.
-ghost use Rattle.std.specs.Prelude.{◌≡◌, codes};
-ghost use Rattle.std.specs.Option.{option_map};
-ghost use Rattle.clap.specs.Words.{subcommand_rows_of};
-ghost use Rattle.command_line.specs.Syntax as spec;
+//! What clap found for a command's arguments.
+ghost use Rattle.std.specs.Prelude.{◌≡◌, IfOk, map, option_map, string_bytes};
+ghost use Rattle.clap.specs.Words.{all_of, first_of, found_of, rows_of};
+ghost use Rattle.command_line.specs.Found as spec;
 
-use crate::arguments::{FORKS, INVENTORY, JOURNAL, PLAN, PLAYBOOK, TOPIC};
 use crate::forks::Forks;
 use clap::ArgMatches;
+use clap::parser::ValueSource;
+use std::alloc::{AllocError, Global};
 
-/// The inventory's file, where the command is `limits`.
-pub(crate) fn limits_inventory<'a>(matches: &ArgMatches<'a>) -> Option<&'a str>
-    ensures { option_map (λ s. s.now) result ≡ spec.file_in (codes "limits") (codes "INV") (subcommand_rows_of matches.now) }
+/// Whether the words use the argument; a default is no use of it.
+pub(crate) fn is_used(found: &ArgMatches<'_>, id: &str) -> bool
+    ensures { result ≡ spec.is_used (rows_of (found_of found.now)) id.now }
 {
-    matches.subcommand_matches("limits")?.get_str(INVENTORY)
+    is_by_words(found.value_source(id))
 }
 
-/// The inventory's file, where the command is `plan`.
-pub(crate) fn plan_inventory<'a>(matches: &ArgMatches<'a>) -> Option<&'a str>
-    ensures { option_map (λ s. s.now) result ≡ spec.file_in (codes "plan") (codes "INV") (subcommand_rows_of matches.now) }
+fn is_by_words(source: Option<ValueSource>) -> bool
+    ensures { result ≡ spec.is_by_words source }
 {
-    matches.subcommand_matches("plan")?.get_str(INVENTORY)
+    match source {
+        Some(ValueSource::CommandLine) => true,
+        _ => false,
+    }
 }
 
-/// The playbook's file, where the command is `plan`.
-pub(crate) fn plan_playbook<'a>(matches: &ArgMatches<'a>) -> Option<&'a str>
-    ensures { option_map (λ s. s.now) result ≡ spec.file_in (codes "plan") (codes "PLAY") (subcommand_rows_of matches.now) }
+/// The values of the argument, of all its uses.
+pub(crate) fn values<'m, 'a>(found: &'m ArgMatches<'a>, id: &str) -> Option<&'m [&'a str]>
+    ensures { option_map (λ values. map (λ value. value.now) values.now) result ≡ all_of id.now (rows_of (found_of found.now)) }
 {
-    matches.subcommand_matches("plan")?.get_str(PLAYBOOK)
+    found.get_strs(id)
 }
 
-/// The inventory's file, where the command is `rehearse`.
-pub(crate) fn rehearse_inventory<'a>(matches: &ArgMatches<'a>) -> Option<&'a str>
-    ensures { option_map (λ s. s.now) result ≡ spec.file_in (codes "rehearse") (codes "INV") (subcommand_rows_of matches.now) }
+/// The value of an operand, if it has one.
+pub(crate) fn value(
+    alloc: Global,
+    found: &ArgMatches<'_>,
+    id: &str,
+) -> Result<Option<String>, AllocError>
+    ensures { IfOk result (λ text. option_map string_bytes text ≡ first_of id.now (rows_of (found_of found.now))) }
 {
-    matches.subcommand_matches("rehearse")?.get_str(INVENTORY)
+    copy(alloc, first_value(found, id))
 }
 
-/// The playbook's file, where the command is `rehearse`.
-pub(crate) fn rehearse_playbook<'a>(matches: &ArgMatches<'a>) -> Option<&'a str>
-    ensures { option_map (λ s. s.now) result ≡ spec.file_in (codes "rehearse") (codes "PLAY") (subcommand_rows_of matches.now) }
+fn first_value<'a>(found: &ArgMatches<'a>, id: &str) -> Option<&'a str>
+    ensures { option_map (λ text. text.now) result ≡ first_of id.now (rows_of (found_of found.now)) }
 {
-    matches.subcommand_matches("rehearse")?.get_str(PLAYBOOK)
+    found.get_str(id)
 }
 
-/// The inventory's file, where the command is `state`.
-pub(crate) fn state_inventory<'a>(matches: &ArgMatches<'a>) -> Option<&'a str>
-    ensures { option_map (λ s. s.now) result ≡ spec.file_in (codes "state") (codes "INV") (subcommand_rows_of matches.now) }
+pub(crate) fn copy(alloc: Global, text: Option<&str>) -> Result<Option<String>, AllocError>
+    ensures { IfOk result (λ copy. option_map string_bytes copy ≡ option_map (λ text. text.now) text.entry) }
 {
-    matches.subcommand_matches("state")?.get_str(INVENTORY)
+    match text {
+        Some(text) => Ok(Some(String::from_str(alloc, text)?)),
+        None => Ok(None),
+    }
 }
 
-/// The journal's file, where the command is `state`.
-pub(crate) fn state_journal<'a>(matches: &ArgMatches<'a>) -> Option<&'a str>
-    ensures { option_map (λ s. s.now) result ≡ spec.file_in (codes "state") (codes "JOURNAL") (subcommand_rows_of matches.now) }
+/// The number of forks that the one use of the option says, or else its default.
+pub(crate) fn forks(found: &ArgMatches<'_>) -> Option<Forks>
+    ensures { result ≡ spec.forks_of (rows_of (found_of found.now)) }
 {
-    matches.subcommand_matches("state")?.get_str(JOURNAL)
+    Forks::read(only(values(found, "forks")?)?)
 }
 
-/// The inventory's file, where the command is `run`.
-pub(crate) fn run_inventory<'a>(matches: &ArgMatches<'a>) -> Option<&'a str>
-    ensures { option_map (λ s. s.now) result ≡ spec.file_in (codes "run") (codes "INV") (subcommand_rows_of matches.now) }
+fn only<'a>(values: &[&'a str]) -> Option<&'a str>
+    ensures { option_map (λ value. value.now) result ≡ spec.only (map (λ value. value.now) values.now) }
 {
-    matches.subcommand_matches("run")?.get_str(INVENTORY)
-}
-
-/// The playbook's file, where the command is `run`.
-pub(crate) fn run_playbook<'a>(matches: &ArgMatches<'a>) -> Option<&'a str>
-    ensures { option_map (λ s. s.now) result ≡ spec.file_in (codes "run") (codes "PLAY") (subcommand_rows_of matches.now) }
-{
-    matches.subcommand_matches("run")?.get_str(PLAYBOOK)
-}
-
-/// The inventory's file, where the command is `check`.
-pub(crate) fn check_inventory<'a>(matches: &ArgMatches<'a>) -> Option<&'a str>
-    ensures { option_map (λ s. s.now) result ≡ spec.file_in (codes "check") (codes "INV") (subcommand_rows_of matches.now) }
-{
-    matches.subcommand_matches("check")?.get_str(INVENTORY)
-}
-
-/// The playbook's file, where the command is `check`.
-pub(crate) fn check_playbook<'a>(matches: &ArgMatches<'a>) -> Option<&'a str>
-    ensures { option_map (λ s. s.now) result ≡ spec.file_in (codes "check") (codes "PLAY") (subcommand_rows_of matches.now) }
-{
-    matches.subcommand_matches("check")?.get_str(PLAYBOOK)
-}
-
-/// The plan's file, where the command is `check`.
-pub(crate) fn check_plan<'a>(matches: &ArgMatches<'a>) -> Option<&'a str>
-    ensures { option_map (λ s. s.now) result ≡ spec.file_in (codes "check") (codes "PLAN") (subcommand_rows_of matches.now) }
-{
-    matches.subcommand_matches("check")?.get_str(PLAN)
-}
-
-/// The inventory's file, where the command is `lint`.
-pub(crate) fn lint_inventory<'a>(matches: &ArgMatches<'a>) -> Option<&'a str>
-    ensures { option_map (λ s. s.now) result ≡ spec.file_in (codes "lint") (codes "INV") (subcommand_rows_of matches.now) }
-{
-    matches.subcommand_matches("lint")?.get_str(INVENTORY)
-}
-
-/// The playbook's file, where the command is `lint`.
-pub(crate) fn lint_playbook<'a>(matches: &ArgMatches<'a>) -> Option<&'a str>
-    ensures { option_map (λ s. s.now) result ≡ spec.file_in (codes "lint") (codes "PLAY") (subcommand_rows_of matches.now) }
-{
-    matches.subcommand_matches("lint")?.get_str(PLAYBOOK)
-}
-
-/// The word that is explained, where the command is `explain`.
-pub(crate) fn explain_word<'a>(matches: &ArgMatches<'a>) -> Option<&'a str>
-    ensures { option_map (λ s. s.now) result ≡ spec.file_in (codes "explain") (codes "NUMBER|RULE") (subcommand_rows_of matches.now) }
-{
-    matches.subcommand_matches("explain")?.get_str(TOPIC)
-}
-
-/// The forks, where the command is `run`.
-pub(crate) fn run_forks(matches: &ArgMatches<'_>) -> Option<Forks>
-    ensures { result ≡ spec.forks_found (subcommand_rows_of matches.now) }
-{
-    Forks::new(matches.subcommand_matches("run")?.get_one::<usize>(FORKS)?)
+    match values {
+        [value] => Some(*value),
+        _ => None,
+    }
 }

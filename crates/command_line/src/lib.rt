@@ -3,26 +3,18 @@
 
 mod arguments;
 pub mod command;
+mod commands;
 mod fault;
 mod forks;
 mod found;
-mod making;
+mod lines;
 mod message;
 mod option_conflict;
-mod option_help;
-mod option_match;
-mod option_name;
-mod option_reading;
 mod option_rules;
-mod option_words;
 mod options;
-mod parsed_command;
-mod reading;
+mod origin;
 mod request;
-mod run_words;
-mod spelling;
 mod syntax;
-mod words;
 
 pub use command::Source;
 pub use fault::LineFault;
@@ -30,5 +22,4 @@ pub use forks::Forks;
 pub use message::Message;
 pub use option_conflict::OptionConflict;
 pub use options::Options;
-pub use reading::line;
 pub use request::{Request, request_of};

@@ -1,226 +1,146 @@
-//! Which options a command has, and which of them go together.
-ghost use Rattle.std.specs.Prelude.{◌≡◌, ◌||◌, map, not, string_bytes};
-ghost use Rattle.std.specs.List.{list_all};
-ghost use Rattle.command_line.specs.OptionReads.{given_as};
-ghost use Rattle.command_line.specs.OptionsOf as options;
-ghost use Rattle.command_line.specs.Wishes as spec;
+//! Which options of a command go together.
+ghost use Rattle.std.specs.Prelude.{◌≡◌, false, find, map};
+ghost use Rattle.std.specs.List.{list_all, list_any};
+ghost use Rattle.std.specs.Option.{option_map, option_map_or};
+ghost use Rattle.clap.specs.Words.{all_of, found_of, rows_of};
+ghost use Rattle.command_line.specs.Found.{is_used};
+ghost use Rattle.command_line.specs.Rules as spec;
 
-use crate::option_conflict::OptionConflict;
-use crate::option_match::has;
-use crate::option_name::OptionName;
-use crate::option_reading::OptionMatch;
-use crate::words::is_word;
+use crate::found::{is_used, values};
+use clap::ArgMatches;
 
-pub(crate) const OF_RUN: &[OptionName] = &[
-    OptionName::Verbose,
-    OptionName::Quiet,
-    OptionName::StopFile,
-    OptionName::Journal,
-    OptionName::Resume,
-    OptionName::Up,
-    OptionName::ChangedInputs,
-    OptionName::LockFile,
-    OptionName::NoLock,
-    OptionName::Strict,
-    OptionName::Json,
-];
-
-pub(crate) const OF_PLAN: &[OptionName] = &[
-    OptionName::Forecast,
-    OptionName::Failing,
-    OptionName::Groups,
-    OptionName::Color,
-    OptionName::Picture,
-    OptionName::Commands,
-    OptionName::Expect,
-    OptionName::From,
-    OptionName::Up,
-    OptionName::ChangedInputs,
-    OptionName::Json,
-    OptionName::Verbose,
-];
-
-pub(crate) const OF_REHEARSAL: &[OptionName] = &[
-    OptionName::Strict,
-    OptionName::From,
-    OptionName::Up,
-    OptionName::ChangedInputs,
-    OptionName::Json,
-    OptionName::Verbose,
-];
-
-pub(crate) const OF_LIMITS: &[OptionName] = &[
-    OptionName::Expect,
-    OptionName::From,
-    OptionName::Up,
-    OptionName::ChangedInputs,
-    OptionName::Json,
-    OptionName::Verbose,
-];
-
-pub(crate) const OF_STATE: &[OptionName] = &[OptionName::ChangedInputs];
-
-pub(crate) const OF_LINT: &[OptionName] = &[OptionName::Allow];
-
-/// The options that a command has beside those that clap reads.
-pub(crate) fn options_of(command: &String) -> &'static [OptionName]
-    ensures { result.now ≡ options.options_of (string_bytes command.now) }
-{
-    if is_word(command, "run") {
-        OF_RUN
-    } else if is_word(command, "plan") {
-        OF_PLAN
-    } else if is_word(command, "rehearse") {
-        OF_REHEARSAL
-    } else if is_word(command, "limits") {
-        OF_LIMITS
-    } else if is_word(command, "state") {
-        OF_STATE
-    } else if is_word(command, "lint") {
-        OF_LINT
-    } else {
-        &[]
-    }
+/// What an option goes with.
+struct OptionRule {
+    option: &'static str,
+    /// The command whose option may stand alone and beside all others, if this is one.
+    exempt: &'static str,
+    /// One of these has to be used too, unless there is none here.
+    needs: &'static [&'static str],
+    /// None of these may be used too.
+    excludes: &'static [&'static str],
+    /// What is said where the rule is broken.
+    text: &'static str,
 }
 
-/// Why these options of the command don't go together, if they don't.
-pub(crate) fn clash_of(command: &String, given: &[OptionMatch]) -> Option<OptionConflict>
-    ensures { result ≡ spec.clash_of (string_bytes command.now) (map given_as given.now) }
+macro_rules! rules {
+    ($($option:literal of not $exempt:literal needs $needs:tt excludes $excludes:tt: $text:literal;)*) => {
+        &[$(OptionRule { option: $option, exempt: $exempt, needs: &$needs, excludes: &$excludes, text: $text }),*]
+    };
+}
+
+/// Of the rules that are broken the first is told.
+const RULES: &[OptionRule] = rules! {
+    "failing" of not "" needs ["forecast"] excludes []: "error: --failing goes with --forecast\n";
+    "journal" of not "" needs [] excludes ["resume"]: "error: --journal doesn't go with --resume: a run that goes on is kept in the journal that --resume names\n";
+    "changed-inputs" of not "state" needs ["resume", "from"] excludes []: "error: --changed-inputs goes with --resume, with --from and with state\n";
+    "up" of not "run" needs ["from"] excludes []: "error: --up goes with run, and else with --from\n";
+    "from" of not "" needs [] excludes ["groups", "picture"]: "error: --from doesn't go with --groups and --picture\n";
+    "expect" of not "" needs [] excludes ["forecast", "groups", "picture", "from"]: "error: --expect doesn't go with --forecast, --groups, --picture and --from\n";
+    "commands" of not "" needs [] excludes ["forecast", "groups", "picture", "from", "expect"]: "error: --commands doesn't go with --forecast, --groups, --picture, --from and --expect\n";
+    "json" of not "" needs [] excludes ["groups", "picture", "from", "expect", "commands"]: "error: --json doesn't go with --groups, --picture, --from, --expect and --commands\n";
+    "strict" of not "rehearse" needs [] excludes ["resume", "up"]: "error: --strict of a run doesn't go with --resume and --up\n";
+};
+
+const FORKS_TWICE: &str =
+    "error: the argument '--forks <N>' cannot be used multiple times\n\nUsage: rollout run [OPTIONS] <INV> <PLAY>\n\nFor more information, try '--help'.\n";
+
+const NO_TIME: &str = "error: --color has the values auto, always and never\n";
+
+/// What is said of the options that are used where they don't go together.
+pub(crate) fn clash_of(command: &str, found: &ArgMatches<'_>) -> Option<&'static str>
+    ensures { option_map (λ text. text.now) result ≡ spec.clash_of command.now (rows_of (found_of found.now)) }
 {
-    match clash_of_beginning(command, given) {
-        None => clash_of_form(command, given),
+    if has_several(found, "forks") {
+        return Some(FORKS_TWICE);
+    }
+    match first_broken(RULES, command, found) {
+        None => clash_of_colors(values(found, "color")?),
         clash => clash,
     }
 }
 
-/// By how the play begins.
-fn clash_of_beginning(command: &String, given: &[OptionMatch]) -> Option<OptionConflict>
-    ensures { result ≡ spec.clash_of_beginning (string_bytes command.now) (map given_as given.now) }
+fn has_several(found: &ArgMatches<'_>, id: &str) -> bool
+    ensures { result ≡ option_map_or spec.is_several (all_of id.now (rows_of (found_of found.now))) false }
 {
-    let from = starts_from(given);
-    if !goes_with(
-        has(given, OptionName::Failing),
-        has(given, OptionName::Forecast),
-    ) {
-        Some(OptionConflict::FailingAlone)
-    } else if !goes_with(
-        has(given, OptionName::Journal),
-        !has(given, OptionName::Resume),
-    ) {
-        Some(OptionConflict::JournalOfResume)
-    } else if !goes_with(
-        has(given, OptionName::ChangedInputs),
-        from || is_word(command, "state"),
-    ) {
-        Some(OptionConflict::ChangedInputsAlone)
-    } else if !goes_with(has(given, OptionName::Up), from || is_word(command, "run")) {
-        Some(OptionConflict::UpAlone)
-    } else if !goes_with(has(given, OptionName::From), !tells_groups(given)) {
-        Some(OptionConflict::GroupsFrom)
-    } else {
-        None
+    match values(found, id) {
+        Some([_, _, ..]) => true,
+        _ => false,
     }
 }
 
-/// By what goes out.
-fn clash_of_form(command: &String, given: &[OptionMatch]) -> Option<OptionConflict>
-    ensures { result ≡ spec.clash_of_form (string_bytes command.now) (map given_as given.now) }
+fn first_broken(rules: &[OptionRule], command: &str, found: &ArgMatches<'_>) -> Option<&'static str>
+    ensures { option_map (λ text. text.now) result
+        ≡ option_map (λ rule. rule.text) (find (spec.is_broken command.now (rows_of (found_of found.now))) (map spec.rule_as rules.now)) }
 {
-    if !goes_with(has(given, OptionName::Expect), !tells_beyond(given)) {
-        Some(OptionConflict::ExpectBeyond)
-    } else if !goes_with(has(given, OptionName::Commands), stand_alone(given)) {
-        Some(OptionConflict::CommandsBeside)
-    } else if !goes_with(has(given, OptionName::Json), has_json(given)) {
-        Some(OptionConflict::NoJson)
-    } else if !goes_with(starts_strictly(command, given), !starts_with_others(given)) {
-        Some(OptionConflict::StrictOfOthers)
-    } else if !are_colours(given) {
-        Some(OptionConflict::NoColor)
-    } else {
+    text_of(find_broken(rules, command, found))
+}
+
+fn text_of(rule: Option<&OptionRule>) -> Option<&'static str>
+    ensures { option_map (λ text. text.now) result ≡ option_map (λ rule. rule.now.text.now) rule.entry }
+{
+    Some(rule?.text)
+}
+
+fn find_broken<'r>(
+    rules: &'r [OptionRule],
+    command: &str,
+    found: &ArgMatches<'_>,
+) -> Option<&'r OptionRule>
+    ensures { option_map (λ rule. rule.now) result
+        ≡ find (λ rule. spec.is_broken command.now (rows_of (found_of found.now)) (spec.rule_as rule)) rules.now }
+{
+    rules.iter().find(|rule| is_broken(rule, command, found))
+}
+
+fn is_broken(rule: &OptionRule, command: &str, found: &ArgMatches<'_>) -> bool
+    ensures { result ≡ spec.is_broken command.now (rows_of (found_of found.now)) (spec.rule_as rule.now) }
+{
+    is_used(found, rule.option) && command != rule.exempt && !is_met(rule, found)
+}
+
+fn is_met(rule: &OptionRule, found: &ArgMatches<'_>) -> bool
+    ensures { result ≡ spec.is_met (rows_of (found_of found.now)) (spec.rule_as rule.now) }
+{
+    (rule.needs.is_empty() || is_any_used(rule.needs, found)) && !is_any_used(rule.excludes, found)
+}
+
+fn is_any_used(options: &[&str], found: &ArgMatches<'_>) -> bool
+    ensures { result ≡ spec.is_any_used (rows_of (found_of found.now)) (map (λ option. option.now) options.now) }
+{
+    is_one_used(options, found)
+}
+
+fn is_one_used(options: &[&str], found: &ArgMatches<'_>) -> bool
+    ensures { result ≡ list_any (λ option. is_used (rows_of (found_of found.now)) option.now) options.now }
+{
+    options.iter().any(|option| is_used(found, option))
+}
+
+/// Each time for colors has to be one that there is.
+fn clash_of_colors(values: &[&str]) -> Option<&'static str>
+    ensures { option_map (λ text. text.now) result ≡ spec.clash_of_colors (map (λ value. value.now) values.now) }
+{
+    if are_times(values) {
         None
+    } else {
+        Some(NO_TIME)
     }
 }
 
-/// Whether each value of the option for colours is one that it has.
-fn are_colours(given: &[OptionMatch]) -> bool
-    ensures { result ≡ spec.are_colours (map given_as given.now) }
+fn are_times(values: &[&str]) -> bool
+    ensures { result ≡ list_all spec.is_time (map (λ value. value.now) values.now) }
 {
-    all_say_when(given)
+    is_each_time(values)
 }
 
-fn all_say_when(given: &[OptionMatch]) -> bool
-    ensures { result ≡ list_all (λ one. spec.says_when (given_as one)) given.now }
+fn is_each_time(values: &[&str]) -> bool
+    ensures { result ≡ list_all (λ value. spec.is_time value.now) values.now }
 {
-    given.iter().all(|one| says_when(one))
+    values.iter().all(|value| is_time(value))
 }
 
-fn says_when(one: &OptionMatch) -> bool
-    ensures { result ≡ spec.says_when (given_as one.now) }
+fn is_time(word: &str) -> bool
+    ensures { result ≡ spec.is_time word.now }
 {
-    !one.option.is(OptionName::Color) || is_when(&one.value)
-}
-
-fn is_when(word: &String) -> bool
-    ensures { result ≡ spec.is_when (string_bytes word.now) }
-{
-    is_word(word, "auto") || is_word(word, "always") || is_word(word, "never")
-}
-
-/// Whether a journal is named from which what is asked for begins.
-fn starts_from(given: &[OptionMatch]) -> bool
-    ensures { result ≡ spec.starts_from (map given_as given.now) }
-{
-    has(given, OptionName::Resume) || has(given, OptionName::From)
-}
-
-/// Whether a table of groups or a picture is asked for.
-fn tells_groups(given: &[OptionMatch]) -> bool
-    ensures { result ≡ spec.tells_groups (map given_as given.now) }
-{
-    has(given, OptionName::Groups) || has(given, OptionName::Picture)
-}
-
-/// Whether more is asked of a plan, or of the table of limits, than how things stand at the start.
-fn tells_beyond(given: &[OptionMatch]) -> bool
-    ensures { result ≡ spec.tells_beyond (map given_as given.now) }
-{
-    has(given, OptionName::Forecast) || tells_groups(given) || has(given, OptionName::From)
-}
-
-/// Whether nothing else is asked of a plan than its commands. When tables are colored may be given with any plan.
-fn stand_alone(given: &[OptionMatch]) -> bool
-    ensures { result ≡ spec.stand_alone (map given_as given.now) }
-{
-    !tells_beyond(given) && !has(given, OptionName::Expect)
-}
-
-/// Whether what is asked for has a form in JSON.
-fn has_json(given: &[OptionMatch]) -> bool
-    ensures { result ≡ spec.has_json (map given_as given.now) }
-{
-    !tells_groups(given)
-        && !has(given, OptionName::From)
-        && !has(given, OptionName::Expect)
-        && !has(given, OptionName::Commands)
-}
-
-/// Whether a run is asked to begin only where no name may be missing.
-fn starts_strictly(command: &String, given: &[OptionMatch]) -> bool
-    ensures { result ≡ spec.starts_strictly (string_bytes command.now) (map given_as given.now) }
-{
-    is_word(command, "run") && has(given, OptionName::Strict)
-}
-
-/// Whether a run begins with other hosts than the inventory has as up.
-fn starts_with_others(given: &[OptionMatch]) -> bool
-    ensures { result ≡ spec.starts_with_others (map given_as given.now) }
-{
-    has(given, OptionName::Resume) || has(given, OptionName::Up)
-}
-
-/// Whether an option that is given or not goes with what holds or not.
-fn goes_with(is_given: bool, holds: bool) -> bool
-    ensures { result ≡ (not is_given || holds) }
-{
-    !is_given || holds
+    word == "auto" || word == "always" || word == "never"
 }

@@ -1,13 +1,12 @@
-//! What the words of a line ask for beside it, by their options.
-ghost use Rattle.std.specs.Prelude.{◌≡◌, [], IfOk, Some, None, if◌then◌else◌, map, string_bytes};
+//! What a line asks for beside its command, by its options.
+ghost use Rattle.std.specs.Prelude.{◌≡◌, ◌++◌, [], IfOk, OnOk, Some, None, codes, flat_map, if◌then◌else◌, map, string_bytes};
 ghost use Rattle.std.specs.Option.{option_map, option_or};
-ghost use Rattle.command_line.specs.OptionReads.{given_as};
+ghost use Rattle.clap.specs.Words.{found_of, rows_of};
+ghost use Rattle.command_line.specs.Found as rows;
 ghost use Rattle.command_line.specs.Wishes as spec;
-ghost use Rattle.command_line.specs.declared.option_name.OptionName.TheVariants as option;
 
-use crate::option_match::{has, joined, last};
-use crate::option_name::OptionName;
-use crate::option_reading::OptionMatch;
+use crate::found::{copy, is_used, values};
+use clap::ArgMatches;
 use std::alloc::{AllocError, Global};
 
 /// What is asked for beside a line. What a command isn't asked for it is as if it had not been said.
@@ -77,69 +76,110 @@ impl Options {
             allowed: String::new(alloc),
         }
     }
-}
 
-/// What these options ask for.
-pub(crate) fn wishes_of(alloc: Global, given: &[OptionMatch]) -> Result<Options, AllocError>
-    ensures { IfOk result (λ wishes. spec.wish_as wishes ≡ spec.wish_of (map given_as given.now)) }
-{
-    Ok(Options {
-        is_verbose: has(given, OptionName::Verbose),
-        is_quiet: has(given, OptionName::Quiet),
-        is_strict: has(given, OptionName::Strict),
-        is_unlocked: has(given, OptionName::NoLock),
-        lock_file: last(alloc, given, OptionName::LockFile)?,
-        stop_file: last(alloc, given, OptionName::StopFile)?,
-        journal: last(alloc, given, OptionName::Journal)?,
-        from: starts_from(alloc, given)?,
-        mended: joined(alloc, given, OptionName::Up)?,
-        takes_others: has(given, OptionName::ChangedInputs),
-        forecast: forecast_of(alloc, given)?,
-        is_grouped: has(given, OptionName::Groups),
-        color: last(alloc, given, OptionName::Color)?,
-        picture: last(alloc, given, OptionName::Picture)?,
-        tells_commands: has(given, OptionName::Commands),
-        is_json: has(given, OptionName::Json),
-        expected: joined_if_given(alloc, given, OptionName::Expect)?,
-        allowed: joined(alloc, given, OptionName::Allow)?,
-    })
-}
-
-/// The values of the option in one text, a comma behind each, if it was given.
-fn joined_if_given(
-    alloc: Global,
-    given: &[OptionMatch],
-    option: OptionName,
-) -> Result<Option<String>, AllocError>
-    ensures { IfOk result (λ text. option_map string_bytes text
-        ≡ (if spec.has option (map given_as given.now) then Some (spec.joined_values option (map given_as given.now)) else None)) }
-{
-    if has(given, option) {
-        Ok(Some(joined(alloc, given, option)?))
-    } else {
-        Ok(None)
+    /// By what clap found for a command.
+    pub(crate) fn of(alloc: Global, found: &ArgMatches<'_>) -> Result<Options, AllocError>
+        ensures { IfOk result (λ options. spec.wish_as options ≡ spec.wish_of (rows_of (found_of found.now))) }
+    {
+        Ok(Options {
+            is_verbose: is_used(found, "verbose"),
+            is_quiet: is_used(found, "quiet"),
+            is_strict: is_used(found, "strict"),
+            is_unlocked: is_used(found, "no-lock"),
+            lock_file: last(alloc, found, "lock-file")?,
+            stop_file: last(alloc, found, "stop-file")?,
+            journal: last(alloc, found, "journal")?,
+            from: begins_from(alloc, found)?,
+            mended: joined(alloc, found, "up")?,
+            takes_others: is_used(found, "changed-inputs"),
+            forecast: joined_if(alloc, found, "forecast", "failing")?,
+            is_grouped: is_used(found, "groups"),
+            color: last(alloc, found, "color")?,
+            picture: last(alloc, found, "picture")?,
+            tells_commands: is_used(found, "commands"),
+            is_json: is_used(found, "json"),
+            expected: joined_if(alloc, found, "expect", "expect")?,
+            allowed: joined(alloc, found, "allow")?,
+        })
     }
 }
 
 /// The journal from which what is asked for begins.
-fn starts_from(alloc: Global, given: &[OptionMatch]) -> Result<Option<String>, AllocError>
+fn begins_from(alloc: Global, found: &ArgMatches<'_>) -> Result<Option<String>, AllocError>
     ensures { IfOk result (λ journal. option_map string_bytes journal
-        ≡ option_or (spec.last_value option.Resume (map given_as given.now)) (spec.last_value option.From (map given_as given.now))) }
+        ≡ option_or (rows.last_of (rows_of (found_of found.now)) (codes "resume")) (rows.last_of (rows_of (found_of found.now)) (codes "from"))) }
 {
-    match last(alloc, given, OptionName::Resume)? {
+    match last(alloc, found, "resume")? {
         Some(journal) => Ok(Some(journal)),
-        None => last(alloc, given, OptionName::From),
+        None => last(alloc, found, "from"),
     }
 }
 
-/// The names of the hosts that fail in the forecast, if one is requested.
-fn forecast_of(alloc: Global, given: &[OptionMatch]) -> Result<Option<String>, AllocError>
-    ensures { IfOk result (λ forecast. option_map string_bytes forecast
-        ≡ (if spec.has option.Forecast (map given_as given.now) then Some (spec.joined_values option.Failing (map given_as given.now)) else None)) }
+/// The values of the second option, where the first is used.
+fn joined_if(
+    alloc: Global,
+    found: &ArgMatches<'_>,
+    condition: &str,
+    id: &str,
+) -> Result<Option<String>, AllocError>
+    ensures { IfOk result (λ text. option_map string_bytes text
+        ≡ (if rows.is_used (rows_of (found_of found.now)) condition.now then Some (rows.joined_of (rows_of (found_of found.now)) id.now) else None)) }
 {
-    if has(given, OptionName::Forecast) {
-        Ok(Some(joined(alloc, given, OptionName::Failing)?))
+    if is_used(found, condition) {
+        Ok(Some(joined(alloc, found, id)?))
     } else {
         Ok(None)
     }
+}
+
+/// The last value of the option.
+fn last(alloc: Global, found: &ArgMatches<'_>, id: &str) -> Result<Option<String>, AllocError>
+    ensures { IfOk result (λ text. option_map string_bytes text ≡ rows.last_of (rows_of (found_of found.now)) id.now) }
+{
+    copy(alloc, last_value(found, id))
+}
+
+fn last_value<'a>(found: &ArgMatches<'a>, id: &str) -> Option<&'a str>
+    ensures { option_map (λ value. value.now) result ≡ rows.last_of (rows_of (found_of found.now)) id.now }
+{
+    last_of(values(found, id)?)
+}
+
+fn last_of<'a>(values: &[&'a str]) -> Option<&'a str>
+    ensures { option_map (λ value. value.now) result ≡ rows.last (map (λ value. value.now) values.now) }
+{
+    values.last().copied()
+}
+
+/// The values of the option in one text, a comma behind each.
+fn joined(alloc: Global, found: &ArgMatches<'_>, id: &str) -> Result<String, AllocError>
+    ensures { IfOk result (λ text. string_bytes text ≡ rows.joined_of (rows_of (found_of found.now)) id.now) }
+{
+    match values(found, id) {
+        Some(values) => join(alloc, values),
+        None => Ok(String::new(alloc)),
+    }
+}
+
+fn join(alloc: Global, values: &[&str]) -> Result<String, AllocError>
+    ensures { IfOk result (λ text. string_bytes text ≡ rows.joined (map (λ value. value.now) values.now)) }
+{
+    join_all(alloc, values)
+}
+
+fn join_all(alloc: Global, values: &[&str]) -> Result<String, AllocError>
+    ensures { IfOk result (λ text. string_bytes text ≡ flat_map (λ value. value.now ++ codes ",") values.now) }
+{
+    let mut text = String::new(alloc);
+    for value in values {
+        append(&mut text, value)?;
+    }
+    Ok(text)
+}
+
+fn append(text: &mut String, value: &str) -> Result<(), AllocError>
+    ensures { OnOk result (string_bytes text.new ≡ string_bytes text.old ++ (value.now ++ codes ",")) }
+{
+    text.push_str(value)?;
+    text.push_str(",")
 }

@@ -1,17 +1,23 @@
-//! A line, with what is asked for beside it.
-ghost use Rattle.std.specs.Prelude.{◌≡◌, ◌∷◌, [], IfErr, IfOk, Some, map, string_bytes};
-ghost use Rattle.command_line.specs.OptionReads.{given_as};
+//! What the words ask for: clap reads them, and a line is made of what it finds.
+ghost use Rattle.std.specs.Prelude.{◌≡◌, [], Err, IfErr, IfOk, None, Ok, map, string_bytes};
+ghost use Rattle.clap.specs.Words.{found_of, kind_of, rows_of};
+ghost use Rattle.command_line.specs.Answers.{AnswersFor};
+ghost use Rattle.command_line.specs.Rules as rules;
 ghost use Rattle.command_line.specs.Wishes as spec;
-ghost use Rattle.command_line.specs.Words.{Refuses, RefusesLine, RefusesWith, Says};
+ghost use Rattle.command_line.specs.Words.{IsApart, IsFound, IsFrom, IsLine, Refuses, RefusesLine, Says};
 
-use crate::command::Line;
+use crate::command::{Line, Source};
 use crate::fault::LineFault;
+use crate::lines::line_of;
+use crate::message::Message;
 use crate::option_conflict::OptionConflict;
-use crate::option_reading::{OptionMatch, read_options};
-use crate::option_rules::{clash_of, options_of};
-use crate::options::{Options, wishes_of};
-use crate::reading::line;
-use std::alloc::{AllocError, Global};
+use crate::option_rules::clash_of;
+use crate::options::Options;
+use crate::origin::is_from;
+use crate::syntax;
+use clap::error::ErrorKind;
+use clap::{ArgMatches, Error};
+use std::alloc::Global;
 
 /// A line, and what is asked for beside it.
 #[derive(Debug, Drop)]
@@ -20,106 +26,85 @@ pub struct Request {
     pub wishes: Options,
 }
 
-/// What the words ask for, the program's name left out. The options of a command may stand anywhere before the word that ends options, and more than once; the word behind one that has a
-/// value is its value, whatever it looks like. They are taken out before clap reads the words, so that what clap makes of the others is the same wherever they stood. Where they don't go
-/// together, the words are no line.
+/// What the words ask for, the program's name left out. No words at all ask for `limits` with the inventory on standard input. Options may stand anywhere before the
+/// word that ends options, and more than once. Where they don't go together, the words are no line.
 pub fn request_of(alloc: Global, words: &[String]) -> Result<Request, LineFault>
-    ensures ok { IfOk result (λ asked. Says (spec.plain (map string_bytes words.now)) asked.line) }
-    ensures wishes { IfOk result (λ asked. spec.wish_as asked.wishes ≡ spec.wished (map string_bytes words.now)) }
+    ensures ok { IfOk result (λ asked. Says (map string_bytes words.now) asked.line (spec.wish_as asked.wishes)) }
     ensures err { IfErr result (RefusesLine (map string_bytes words.now)) }
 {
-    match words {
-        [command, rest @ ..] => command_request(alloc, words, command, rest),
-        [] => bare_request(alloc, words),
+    if words.is_empty() {
+        return Ok(Request {
+            line: Line::Limits {
+                inventory: Source::StandardInput,
+            },
+            wishes: Options::none(alloc),
+        });
+    }
+    match syntax::matches(alloc, words) {
+        Ok(matches) => found_request(alloc, words, &matches),
+        Err(error) => printed_request(alloc, &error),
     }
 }
 
-/// What words ask for whose first is this one, and the others these.
+/// What clap found, as a request.
+fn found_request(
+    alloc: Global,
+    words: &[String],
+    matches: &ArgMatches<'_>,
+) -> Result<Request, LineFault>
+    ensures ok { IfOk result (λ asked. IsFound (map string_bytes words.now) asked.line (spec.wish_as asked.wishes)) }
+    ensures err { IfErr result Refuses }
+{
+    match matches.subcommand() {
+        Some((command, found)) => command_request(alloc, words, command, found),
+        None => Err(LineFault::Unexplained),
+    }
+}
+
+/// What clap found for a command, where it stands in the words.
 fn command_request(
     alloc: Global,
     words: &[String],
-    command: &String,
-    rest: &[String],
+    command: &str,
+    found: &ArgMatches<'_>,
 ) -> Result<Request, LineFault>
-    requires { map string_bytes words.now ≡ string_bytes command.now ∷ map string_bytes rest.now }
-    ensures ok { IfOk result (λ asked. Says (spec.plain (map string_bytes words.now)) asked.line) }
-    ensures wishes { IfOk result (λ asked. spec.wish_as asked.wishes ≡ spec.wished (map string_bytes words.now)) }
-    ensures err { IfErr result (RefusesLine (map string_bytes words.now)) }
+    ensures origin { IfOk result (λ _. IsFrom (map string_bytes words.now) (rows_of (found_of found.now))) }
+    ensures apart { IfOk result (λ _. rules.clash_of command.now (rows_of (found_of found.now)) ≡ None) }
+    ensures is_line { IfOk result (λ asked. IsLine command.now (rows_of (found_of found.now)) asked.line) }
+    ensures is_wish { IfOk result (λ asked. spec.wish_as asked.wishes ≡ spec.wish_of (rows_of (found_of found.now))) }
+    ensures err { IfErr result (IsApart (rules.clash_of command.now (rows_of (found_of found.now)))) }
 {
-    let Ok((plain, given)) = read_options(alloc, options_of(command), rest) else {
+    if !is_from(words, found) {
+        return Err(LineFault::Unexplained);
+    }
+    if let Some(text) = clash_of(command, found) {
+        return Err(LineFault::Apart(OptionConflict::Rule(text)));
+    }
+    let Ok(wishes) = Options::of(alloc, found) else {
         return Err(LineFault::Memory);
     };
-    match clash_of(command, given.as_slice()) {
-        None => wished_request(alloc, command, plain, given.as_slice()),
-        Some(clash) => clashing_request(alloc, words, clash),
+    match line_of(alloc, command, found) {
+        Ok(Some(line)) => Ok(Request { line, wishes }),
+        Ok(None) => Err(LineFault::Unexplained),
+        Err(_) => Err(LineFault::Memory),
     }
 }
 
-/// What these words ask for, whose options don't go together: the help, if anything.
-fn clashing_request(
-    alloc: Global,
-    words: &[String],
-    clash: OptionConflict,
-) -> Result<Request, LineFault>
-    ensures ok { IfOk result (λ asked. Says (map string_bytes words.now) asked.line) }
+/// What clap's error makes of the words: a text to print, beside which nothing is asked for, or a fault.
+fn printed_request(alloc: Global, error: &Error) -> Result<Request, LineFault>
+    ensures ok { IfOk result (λ asked. AnswersFor (kind_of error.now) (Ok asked.line)) }
     ensures wishes { IfOk result (λ asked. spec.wish_as asked.wishes ≡ spec.wish_of []) }
-    ensures err { IfErr result (RefusesWith (Some clash) (map string_bytes words.now)) }
+    ensures err { IfErr result (λ fault. AnswersFor (kind_of error.now) (Err fault)) }
 {
-    match bare_request(alloc, words) {
-        Ok(request) => Ok(request),
-        Err(LineFault::Unexplained) => Err(LineFault::Apart(clash)),
-        Err(fault) => Err(fault),
-    }
-}
-
-/// What these words ask for, beside which nothing is asked for.
-fn bare_request(alloc: Global, words: &[String]) -> Result<Request, LineFault>
-    ensures ok { IfOk result (λ asked. Says (map string_bytes words.now) asked.line) }
-    ensures wishes { IfOk result (λ asked. spec.wish_as asked.wishes ≡ spec.wish_of []) }
-    ensures err { IfErr result (Refuses (map string_bytes words.now)) }
-{
-    match line(alloc, words) {
-        Ok(line) => Ok(Request {
-            line,
+    let Ok(message) = Message::of(alloc, error) else {
+        return Err(LineFault::Memory);
+    };
+    match error.kind() {
+        ErrorKind::DisplayHelp | ErrorKind::DisplayVersion => Ok(Request {
+            line: Line::Print(message),
             wishes: Options::none(alloc),
         }),
-        Err(fault) => Err(fault),
+        ErrorKind::OutOfMemory => Err(LineFault::Memory),
+        _ => Err(LineFault::BadLine(message)),
     }
-}
-
-/// What a command with these words behind it asks for, beside which these options are given.
-fn wished_request(
-    alloc: Global,
-    command: &String,
-    words: Vec<String>,
-    given: &[OptionMatch],
-) -> Result<Request, LineFault>
-    ensures ok { IfOk result (λ asked. Says (string_bytes command.now ∷ map string_bytes words.items) asked.line) }
-    ensures wishes { IfOk result (λ asked. spec.wish_as asked.wishes ≡ spec.wish_of (map given_as given.now)) }
-    ensures err { IfErr result (Refuses (string_bytes command.now ∷ map string_bytes words.items)) }
-{
-    let Ok(all) = behind(alloc, command, words) else {
-        return Err(LineFault::Memory);
-    };
-    let Ok(wishes) = wishes_of(alloc, given) else {
-        return Err(LineFault::Memory);
-    };
-    match line(alloc, all.as_slice()) {
-        Ok(line) => Ok(Request { line, wishes }),
-        Err(fault) => Err(fault),
-    }
-}
-
-/// The command with these words behind it.
-fn behind(
-    alloc: Global,
-    command: &String,
-    mut words: Vec<String>,
-) -> Result<Vec<String>, AllocError>
-    ensures { IfOk result (λ all. map string_bytes all.items ≡ string_bytes command.now ∷ map string_bytes words.items) }
-{
-    let mut all = Vec::new(alloc);
-    all.push(String::from_str(alloc, command.as_str())?)?;
-    all.append(&mut words)?;
-    Ok(all)
 }

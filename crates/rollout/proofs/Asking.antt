@@ -1,8 +1,8 @@
 -- What the words ask for is what is done.
 use Rattle.std.proofs.Common.{◌≡◌, ℕ, Bool, true, false, Option, Some, None, List, Result, Ok, Err, inl, inr, refl, sym, subst}
 use Rattle.std.specs.Prelude.{IfOk, IfErr, OnOk, is_some, option_map, ◌⊎◌, ◌||◌}
-use Rattle.command_line.specs.Operands.{Word}
-use Rattle.command_line.specs.Wishes.{Wish, plain, wished}
+use Rattle.command_line.specs.Found.{Word}
+use Rattle.command_line.specs.Wishes.{Wish}
 use Rattle.command_line.specs.Words as words
 use Rattle.command_line.specs.declared.command.Line as declared_line
 use Rattle.command_line.specs.declared.command.Source.{Source}
@@ -37,16 +37,16 @@ helps_where_asked is_wanted may (Some help) helps asked = (asked helps.0, helps.
 
 module _ (journals : Wish → Sources → Source → Source → Option (List ℕ) → Option (List ℕ) → Result Status Fault → List (List Event) → Type 0) (may : Work → Ending → Type 0) (is_watched : Bool) (sources : Sources) (words_given : List Word) (line : declared_line.Line) (input_old input_new out_old out_new : Option (List ℕ)) (reporting : Reporting) (result : Result Status Fault) (logs : List (List Event)) where
   -- what was done is what the words ask for
-  pub follows_line : (asks : Bool) (wish : Wish) → words.Says (plain words_given) line → wish ≡ wished words_given → asks ≡ is_some wish.stop_file
+  pub follows_line : (asks : Bool) (wish : Wish) → words.Says words_given line wish → asks ≡ is_some wish.stop_file
       → reporting.form ≡ form_of wish.json → MayHelp (is_watched || wish.verbose) reporting.help
       → Acts journals may asks wish sources line input_old input_new out_old out_new result logs → FollowsLine journals may is_watched sources words_given input_old input_new out_old out_new reporting result logs
-  follows_line asks wish says of_wish of_asks of_form helps acts = record {
-    form_is = subst (λ (w : Wish). reporting.form ≡ form_of w.json) of_wish of_form;
-    help_is = subst (λ (w : Wish). MayHelp (is_watched || w.verbose) reporting.help) of_wish helps;
+  follows_line asks wish says of_asks of_form helps acts = record {
     line = line;
+    wish = wish;
     says = says;
-    acts = subst (λ (w : Wish). Acts journals may (is_some w.stop_file) w sources line input_old input_new out_old out_new result logs) of_wish
-        (subst (λ (b : Bool). Acts journals may b wish sources line input_old input_new out_old out_new result logs) of_asks acts);
+    form_is = of_form;
+    help_is = helps;
+    acts = subst (λ (b : Bool). Acts journals may b wish sources line input_old input_new out_old out_new result logs) of_asks acts;
   }
 
 -- how a plan ends behind which a picture was drawn or not

@@ -1,8 +1,8 @@
 -- What is started is safe, as what is done says what that was.
-use Rattle.std.proofs.Common.{◌≡◌, ◌⊎◌, ℕ, Bool, ◌≤◌, List, [], ◌∷◌, Option, Some, None, Result, Ok, Err, inl, inr, ap, subst}
+use Rattle.std.proofs.Common.{◌≡◌, ◌⊎◌, ℕ, Bool, ◌≤◌, List, [], ◌∷◌, Option, Some, None, Result, Ok, Err, inl, inr, subst}
 use Rattle.std.specs.Prelude.{drop, is_some}
-use Rattle.command_line.specs.Operands.{Word}
-use Rattle.command_line.specs.Wishes.{Wish, plain, wished}
+use Rattle.command_line.specs.Found.{Word}
+use Rattle.command_line.specs.Wishes.{Wish}
 use Rattle.command_line.specs.Words as words
 use Rattle.command_line.specs.declared.command.Line.{Line}
 use Rattle.command_line.specs.declared.command.Line.TheVariants as line
@@ -153,17 +153,17 @@ module _ (form : Form) (may : Work → Ending → Type 0) where
 
 module _ (journals : Wish → Sources → Source → Source → Option (List ℕ) → Option (List ℕ) → Result Status Fault → List (List Event) → Type 0) (may : Work → Ending → Type 0) (is_watched : Bool) where
   module _ (given : Known (List Word)) (sources : Sources) (input_old input_new out_old out_new : Option (List ℕ)) where
-    lines_are_safe : (args : List Word) → Gives given args → (asked : Line) → words.Says (plain (drop 1 args)) asked → (asks : Bool) (wish : Wish) (result : Result Status Fault) (logs : List (List Event))
-        → wish ≡ wished (drop 1 args) → Does journals may asks wish sources asked input_old input_new out_old out_new result logs → StartsSafely may given sources input_old input_new logs
-    lines_are_safe args gives (line.Limits inventory) says asks wish result logs is does = inl does.1
-    lines_are_safe args gives (line.Plan inventory playbook) says asks wish result logs is does = inl does.1
-    lines_are_safe args gives (line.Rehearse inventory playbook) says asks wish result logs is does = inl does.1
-    lines_are_safe args gives (line.State inventory journal) says asks wish result logs is does = inl does.1
-    lines_are_safe args gives (line.Check inventory playbook plan) says asks wish result logs is does = inl does.1
-    lines_are_safe args gives (line.Lint inventory playbook) says asks wish result logs is does = inl does.1
-    lines_are_safe args gives (line.Explain word) says asks wish result logs is does = inl does.2
-    lines_are_safe args gives (line.Print message) says asks wish result logs is does = inl does.2
-    lines_are_safe args gives (line.Run inventory playbook forks) says asks wish result logs is does = by (either_is_safe (form_of wish.json) may given sources input_old input_new out_old out_new asks wish.from wish inventory playbook forks result logs does.0)
+    lines_are_safe : (args : List Word) → Gives given args → (asked : Line) (wish : Wish) → words.Says (drop 1 args) asked wish → (asks : Bool) (result : Result Status Fault) (logs : List (List Event))
+        → Does journals may asks wish sources asked input_old input_new out_old out_new result logs → StartsSafely may given sources input_old input_new logs
+    lines_are_safe args gives (line.Limits inventory) wish says asks result logs does = inl does.1
+    lines_are_safe args gives (line.Plan inventory playbook) wish says asks result logs does = inl does.1
+    lines_are_safe args gives (line.Rehearse inventory playbook) wish says asks result logs does = inl does.1
+    lines_are_safe args gives (line.State inventory journal) wish says asks result logs does = inl does.1
+    lines_are_safe args gives (line.Check inventory playbook plan) wish says asks result logs does = inl does.1
+    lines_are_safe args gives (line.Lint inventory playbook) wish says asks result logs does = inl does.1
+    lines_are_safe args gives (line.Explain word) wish says asks result logs does = inl does.2
+    lines_are_safe args gives (line.Print message) wish says asks result logs does = inl does.2
+    lines_are_safe args gives (line.Run inventory playbook forks) wish says asks result logs does = by (either_is_safe (form_of wish.json) may given sources input_old input_new out_old out_new asks wish.from wish inventory playbook forks result logs does.0)
       where
         by : (logs ≡ []) ⊎ AreSafeOrAgain may wish.from wish sources inventory playbook forks input_old input_new logs → StartsSafely may given sources input_old input_new logs
         by (inl none) = inl none
@@ -173,14 +173,15 @@ module _ (journals : Wish → Sources → Source → Source → Option (List ℕ
           inventory = inventory;
           playbook = playbook;
           forks = forks;
+          wish = wish;
           says = says;
-          safe = subst (λ (w : Wish). AreSafeOrAgain may w.from w sources inventory playbook forks input_old input_new logs) is safe;
+          safe = safe;
         })
 
-    acts_are_safe : (args : List Word) → Gives given args → (asked : Line) → words.Says (plain (drop 1 args)) asked → (asks : Bool) (wish : Wish) (result : Result Status Fault) (logs : List (List Event))
-        → wish ≡ wished (drop 1 args) → Acts journals may asks wish sources asked input_old input_new out_old out_new result logs → StartsSafely may given sources input_old input_new logs
-    acts_are_safe args gives asked says asks wish result logs is (inl does) = lines_are_safe args gives asked says asks wish result logs is does
-    acts_are_safe args gives asked says asks wish result logs is (inr overwrites) = inl overwrites.none
+    acts_are_safe : (args : List Word) → Gives given args → (asked : Line) (wish : Wish) → words.Says (drop 1 args) asked wish → (asks : Bool) (result : Result Status Fault) (logs : List (List Event))
+        → Acts journals may asks wish sources asked input_old input_new out_old out_new result logs → StartsSafely may given sources input_old input_new logs
+    acts_are_safe args gives asked wish says asks result logs (inl does) = lines_are_safe args gives asked wish says asks result logs does
+    acts_are_safe args gives asked wish says asks result logs (inr overwrites) = inl overwrites.none
 
     pub performs_safely : (reporting : Reporting) (result : Result Status Fault) (logs : List (List Event)) → Performs journals may is_watched given sources input_old input_new out_old out_new reporting result logs → StartsSafely may given sources input_old input_new logs
     performs_safely reporting result logs (inr lacks) = inl lacks.none
@@ -189,5 +190,5 @@ module _ (journals : Wish → Sources → Source → Source → Option (List ℕ
         by : (behind : List Word) → behind ≡ drop 1 takes.args → Attempts journals may is_watched sources behind input_old input_new out_old out_new reporting result logs → StartsSafely may given sources input_old input_new logs
         by behind are (inr refuses) = inl refuses.none
         by behind are (inl follows) =
-            acts_are_safe takes.args takes.gives follows.line (subst (λ (w : List Word). words.Says (plain w) follows.line) are follows.says)
-            (is_some (wished behind).stop_file) (wished behind) result logs (ap wished are) follows.acts
+            acts_are_safe takes.args takes.gives follows.line follows.wish (subst (λ (w : List Word). words.Says w follows.line follows.wish) are follows.says)
+            (is_some follows.wish.stop_file) result logs follows.acts

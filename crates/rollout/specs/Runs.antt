@@ -4,8 +4,8 @@ use Rattle.std.specs.declared.io.ErrorKind.{ErrorKind}
 use Rattle.std.specs.declared.io.ErrorKind.TheVariants.{OutOfMemory}
 use Rattle.std.specs.Io.KnownBytes.{Keeps}
 use Rattle.command_line.specs.Messages as messages
-use Rattle.command_line.specs.Operands.{Word}
-use Rattle.command_line.specs.Wishes.{Wish, plain, wished}
+use Rattle.command_line.specs.Found.{Word}
+use Rattle.command_line.specs.Wishes.{Wish}
 use Rattle.command_line.specs.Words as words
 use Rattle.command_line.specs.declared.command.Line as declared_line
 use Rattle.command_line.specs.declared.command.Source.{Source}
@@ -140,14 +140,15 @@ module _ (Journals : Wish → Sources → Source → Source → Option (List ℕ
   Acts may asks wish sources line input_old input_new out_old out_new result logs =
       Does may asks wish sources line input_old input_new out_old out_new result logs ⊎ RefusesFile wish input_old input_new out_old out_new result logs
 
-  -- the words without their options are a line, and what it asks for was done as they ask: whether a run tells of itself while it goes on makes no difference, and it may be stopped where they
+  -- the words say a line and what is asked for beside it, and that was done as they ask: whether a run tells of itself while it goes on makes no difference, and it may be stopped where they
   -- name a file for that. A fault is reported in the form that they ask for, and what helps is said behind it only where they ask for more than its line, or somebody watches
   pub record FollowsLine (may : Work → Ending → Type 0) (is_watched : Bool) (sources : Sources) (words_given : List Word) (input_old input_new out_old out_new : Option (List ℕ)) (reporting : Reporting) (result : Result Status Fault) (logs : List (List Event)) : Type 0 where
-    pub form_is : reporting.form ≡ form_of (wished words_given).json
-    pub help_is : MayHelp (is_watched || (wished words_given).verbose) reporting.help
     pub line : declared_line.Line
-    pub says : words.Says (plain words_given) line
-    pub acts : Acts may (is_some (wished words_given).stop_file) (wished words_given) sources line input_old input_new out_old out_new result logs
+    pub wish : Wish
+    pub says : words.Says words_given line wish
+    pub form_is : reporting.form ≡ form_of wish.json
+    pub help_is : MayHelp (is_watched || wish.verbose) reporting.help
+    pub acts : Acts may (is_some wish.stop_file) wish sources line input_old input_new out_old out_new result logs
 
   abbrev pub Attempts : (Work → Ending → Type 0) → Bool → Sources → List Word → Option (List ℕ) → Option (List ℕ) → Option (List ℕ) → Option (List ℕ) → Reporting → Result Status Fault → List (List Event) → Type 0
   Attempts may is_watched sources words_given input_old input_new out_old out_new reporting result logs =
@@ -191,8 +192,9 @@ pub record AreSafeByWords (may : Work → Ending → Type 0) (given : Known (Lis
   pub inventory : Source
   pub playbook : Source
   pub forks : ℕ
-  pub says : words.Says (plain (drop 1 args)) (Run inventory playbook forks)
-  pub safe : AreSafeOrAgain may (wished (drop 1 args)).from (wished (drop 1 args)) sources inventory playbook forks input_old input_new logs
+  pub wish : Wish
+  pub says : words.Says (drop 1 args) (Run inventory playbook forks) wish
+  pub safe : AreSafeOrAgain may wish.from wish sources inventory playbook forks input_old input_new logs
 
 -- nothing was started, or the words are a line `run`, and at no moment of what was started is a group of its inventory over its limit
 abbrev pub StartsSafely : (Work → Ending → Type 0) → Known (List Word) → Sources → Option (List ℕ) → Option (List ℕ) → List (List Event) → Type 0

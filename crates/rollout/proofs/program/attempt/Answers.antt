@@ -1,6 +1,6 @@
 use Rattle.std.proofs.Common.{List, ap, refl, rules, inl, map, sym, ◌∙◌}
 use Rattle.std.specs.Prelude.{◌||◌, is_some, string_bytes}
-use Rattle.command_line.specs.Operands.{Word}
+use Rattle.command_line.specs.Found.{Word}
 use Rattle.command_line.specs.Wishes.{wish_as}
 use Rattle.roll_run.proofs.Following.{gains_as, gains_none}
 use Rattle.rollout.specs.Kept.{KeepsJournal}
@@ -17,7 +17,7 @@ returns-in-Ok g c =
     gains_as c.args.history c.act-outcome.result.1
     (λ logs acts. inl (follows_line (KeepsJournal g.S.Journal.Write.contents g.S.JournalStore.is_new g.S.JournalStore.is_cut) (g.R.Runner.may c.args.runner.now) (g.S.System.may_watch c.args.system.now) (sources_of (g.S.System.known c.args.system.now) (g.I.Input.is_reliable c.args.input.now)) given found.line
     (g.I.Read.remaining c.args.input.now) (g.I.Read.remaining c.act-outcome.new.input) (g.O.Write.contents c.args.out.now) (g.O.Write.contents c.act-outcome.new.out) _ c.act-outcome.result.0 logs
-    _ (wish_as found.wishes) asked.ok asked.wishes
+    _ (wish_as found.wishes) asked.ok
     (ap is_some c.new-attend.ensures ∙ sym (mapped_some string_bytes found.wishes.stop_file)) c.form_of.ensures helps acts))
     c.act-outcome.ensures
 

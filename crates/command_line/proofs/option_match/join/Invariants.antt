@@ -1,5 +1,0 @@
-use Rattle.std.proofs.Common.{◌≡◌, ◌++◌, codes, flat_map, string_bytes, take}
-use Rattle.command_line.proofs.option_match.join.Given as goal
-
-abbrev pub invariant-loop-value : goal.invariant-loop-value
-invariant-loop-value l = string_bytes l.text ≡ flat_map (λ value. string_bytes value ++ codes ",") (take l.value-index l.values)
