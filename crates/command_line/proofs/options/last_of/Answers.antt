@@ -11,4 +11,4 @@ returns c =
     let text = λ (value : Bor Text). value.now in
     let values = c.args.values.now in
     ap (option_map text) (c.copied.ensures ∙ c.last.ensures.value) ∙ sym (slice_get-map text values (length values - 1))
-    ∙ ap (λ (n : ℕ). slice_get (map text values) (n - 1)) (sym (length-map text values))
+    ∙ ap (λ (n : ℕ). slice_get (map text values) (n - 1)) (sym (length-map values text))
