@@ -1,7 +1,6 @@
 pub mod Places
 pub mod Telling
 pub mod Keeping
-pub mod Texts
 pub mod Waiting
 pub mod PlayLines
 pub mod Sent

@@ -11,8 +11,7 @@ ghost use Rattle.command_preview.specs.Lines.{fails, head_text, lines_of_plays, 
 use crate::end::WordsEnd;
 use crate::hosts::{Context, write_play};
 use bounded_io::TextWriter;
-use domains::PatternFault;
-use plan_command::PlanFault;
+use plan_command::TextFault;
 use play_model::Play;
 use recap::write_field;
 use std::alloc::{AllocError, Global};
@@ -70,7 +69,7 @@ pub(crate) fn send_plays<W: Write>(
     scene: &Context<'_, '_>,
     plays: &[Play],
     out: &mut W,
-) -> Result<WordsEnd, PlanFault>
+) -> Result<WordsEnd, TextFault>
     requires bare { All HasNoResult scene.now.vars.now }
     requires all { length scene.now.vars.now ≡ length scene.now.fleet.now.hosts }
     requires few { length plays.now ≤ 16 }
@@ -83,8 +82,8 @@ pub(crate) fn send_plays<W: Write>(
     match text.finish() {
         Ok(()) => match told {
             Ok(fails) => Ok(end_of(fails)),
-            Err(_refused) => Err(PlanFault::Pattern(PatternFault::Memory)),
+            Err(_refused) => Err(TextFault::Memory),
         },
-        Err(fault) => Err(PlanFault::Write(fault)),
+        Err(fault) => Err(TextFault::Write(fault)),
     }
 }

@@ -1,8 +1,9 @@
 //! What the texts of an inventory and a playbook say.
-ghost use Rattle.std.specs.Prelude.{All, IfErr, IfOk};
+ghost use Rattle.std.specs.Prelude.{◌≡◌, ◌≤◌, All, IfErr, IfOk, length};
 ghost use Rattle.host_vars.specs.HostVars.{HasNoResult};
+ghost use Rattle.plan_command.specs.Inputs.{IsRefused};
 ghost use Rattle.command_preview.specs.Inside.{views_of};
-ghost use Rattle.command_preview.specs.WordTexts.{AreRead, IsRefused};
+ghost use Rattle.command_preview.specs.WordTexts.{AreRead};
 
 use bumpalo::Bump;
 use domains::{Fleet, PatternFault};
@@ -22,9 +23,12 @@ pub struct Inputs {
 
 /// Reads both texts: first the inventory's faults are told, then the playbook's, then the first part of a pattern, of any play, that names nothing. The
 /// inventory's tree lives in an arena that is given up here: the fleet and the variables own what they need.
+#[tactic(auto, using(plan_command::proofs::PlayLemmas::few_plays))]
 pub fn read_inputs(alloc: Global, inventory: &[u8], playbook: &[u8]) -> Result<Inputs, PlanFault>
     ensures ok { IfOk result (λ inputs. AreRead inventory.now playbook.now inputs.fleet (views_of inputs.vars.items) inputs.plays.items) }
     ensures bare { IfOk result (λ inputs. All HasNoResult inputs.vars.items) }
+    ensures all { IfOk result (λ inputs. length inputs.vars.items ≡ length inputs.fleet.hosts) }
+    ensures few { IfOk result (λ inputs. length inputs.plays.items ≤ 16) }
     ensures err { IfErr result (IsRefused inventory.now playbook.now) }
 {
     let arena = Bump::new(alloc);

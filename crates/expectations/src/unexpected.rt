@@ -4,7 +4,7 @@ ghost use Rattle.std.specs.Option.{option_map};
 ghost use Rattle.expectations.specs.Shown.{unexpected_shown, unmet_shown};
 
 use crate::expectation::{Relation, Unmet};
-use plan_command::PlanFault;
+use plan_command::TextFault;
 use std::alloc::{AllocError, Global};
 
 /// The name stands for another number than the one that is expected, or for none.
@@ -19,11 +19,10 @@ pub struct Unexpected {
 /// Why what is expected is not found.
 #[derive(Debug, Drop)]
 pub enum ExpectFault {
-    /// The inventory or the playbook is refused as `plan` refuses it, or the output broke off.
-    Plan(PlanFault),
+    /// What is to be printed isn't printed whole.
+    Text(TextFault),
     /// All was printed, and this number isn't as expected.
     Unexpected(Unexpected),
-    Memory,
 }
 
 /// The same, owning its name.

@@ -1,3 +1,1 @@
-pub mod JsonLemmas
-pub mod PlanLemmas
 pub mod UniqueLemmas

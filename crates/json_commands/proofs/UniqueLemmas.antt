@@ -1,5 +1,5 @@
 -- Two texts have one plan and one text of courses.
-use Rattle.std.proofs.Common.{◌≡◌, ℕ, ◌-◌, ◌+◌, ◌++◌, List, [], ◌∷◌, codes, length, nat_lt, refl, sym, ap, ap₂, ◌∙◌, subst}
+use Rattle.std.proofs.Common.{◌≡◌, ℕ, ◌-◌, ◌+◌, ◌++◌, List, [], ◌∷◌, codes, length, nat_lt, refl, ap, ap₂, ◌∙◌}
 use Rattle.std.specs.List.{sum_by}
 use Rattle.domains.specs.FleetViews.{FleetView}
 use Rattle.batch_plan.specs.declared.answers.Answer.{Answer}
@@ -8,40 +8,27 @@ use Rattle.play_forecast.specs.Courses.{batches_of}
 use Rattle.play_forecast.specs.Files.{Course}
 use Rattle.play_forecast.specs.Laws.{AreSameBoundaries, AreSameCourses}
 use Rattle.play_forecast.specs.declared.end.End.{End}
-use Rattle.play_forecast.proofs.AlikeLemmas.{one_plan}
 use Rattle.recap.specs.LimitsText.{field_text}
 use Rattle.recap.specs.RecapText.{text_by_place}
-use Rattle.plan_command.specs.Ends.{end_of}
-use Rattle.plan_command.specs.PlanTexts.{IsPlaybookPlan}
-use Rattle.plan_command.proofs.UniqueLemmas.{first_alike, one_fleet_in, same_end}
+use Rattle.plan_command.proofs.UniqueLemmas.{one_plan_as}
 use Rattle.rehearse.specs.CourseTexts.{batches_opened}
-use Rattle.rehearse.proofs.OneCourseLemmas.{same_ends, same_readings}
+use Rattle.rehearse.proofs.OneCourseLemmas.{one_forecast}
 use Rattle.rehearse.proofs.SameTextLemmas.{same_many, same_sum}
 use Rattle.json_output.specs.Arrays.{comma_if}
 use Rattle.json_output.specs.PlanJson.{answer_json, batches_json, names_json, plan_json}
 use Rattle.json_output.specs.PlayJson.{boundaries_json, course_json, ended_json}
 use Rattle.json_output.proofs.SameLemmas.{same_answer, same_batches, same_boundaries}
-use Rattle.json_commands.specs.CourseTexts.{courses_json}
+use Rattle.json_commands.specs.CourseTexts.{IsJsonOfCourses, courses_json}
 use Rattle.json_commands.specs.Laws.{OneCourseJson, OnePlanJson}
 
-same_plan : (fleet : FleetView) (answer other : Answer) (held hosts : List ℕ) → IsSameAnswer answer other → held ≡ hosts → plan_json fleet answer held ≡ plan_json fleet other hosts
-same_plan fleet answer other held hosts same set_aside =
-    let made : List ℕ → List ℕ → List ℕ → List ℕ = λ a b h. codes "{\"answer\":" ++ (a ++ (codes ",\"batches\":" ++ (b ++ (codes ",\"held\":" ++ (h ++ codes "}\n"))))) in
-    ap (λ a. made a (batches_json fleet (batches_of answer)) (names_json fleet held)) (same_answer fleet answer other same)
-    ∙ ap (λ (b : List (List ℕ)). made (answer_json fleet other) (batches_json fleet b) (names_json fleet held)) (same_batches answer other same)
-    ∙ ap (λ (h : List ℕ). made (answer_json fleet other) (batches_json fleet (batches_of other)) (names_json fleet h)) set_aside
+same_plan : (fleet : FleetView) (answer other : Answer) (held : List ℕ) → IsSameAnswer answer other → plan_json fleet answer held ≡ plan_json fleet other held
+same_plan fleet answer other held same =
+    let made : List ℕ → List ℕ → List ℕ = λ a b. codes "{\"answer\":" ++ (a ++ (codes ",\"batches\":" ++ (b ++ (codes ",\"held\":" ++ (names_json fleet held ++ codes "}\n"))))) in
+    ap (λ a. made a (batches_json fleet (batches_of answer))) (same_answer fleet answer other same)
+    ∙ ap (λ (b : List (List ℕ)). made (answer_json fleet other) (batches_json fleet b)) (same_batches answer other same)
 
 pub one_plan_json : OnePlanJson
-one_plan_json inventory playbook text other end otherwise first second =
-    let fleet : FleetView = first.fleet in
-    let same : fleet ≡ second.fleet = one_fleet_in inventory fleet second.fleet first.plan.built second.plan.built in
-    let its : IsPlaybookPlan fleet playbook first.answer first.held = first.plan.plan in
-    let also : IsPlaybookPlan fleet playbook second.answer second.held = subst (λ (f : FleetView). IsPlaybookPlan f playbook second.answer second.held) (sym same) second.plan.plan in
-    let alike = first_alike 16 playbook its.plays also.plays its.plan.others also.plan.others its.plan.first also.plan.first its.reads also.reads its.plan.are also.plan.are in
-    let one = one_plan fleet its.plan.first also.plan.first first.answer second.answer first.held second.held alike its.plan.plan also.plan.plan in (
-      first.text_is ∙ same_plan fleet first.answer second.answer first.held second.held one.0 one.1 ∙ ap (λ (f : FleetView). plan_json f second.answer second.held) same ∙ sym second.text_is,
-      first.ends ∙ same_end first.answer second.answer first.held one.0 ∙ ap (end_of second.answer) one.1 ∙ sym second.ends,
-    )
+one_plan_json = one_plan_as (λ fleet play answer held. plan_json fleet answer held) (λ fleet play other answer more held alike same. same_plan fleet answer more held same)
 
 -- the same courses are written alike
 module _ (fleet : FleetView) where
@@ -67,8 +54,4 @@ module _ (fleet : FleetView) where
       ∙ ap (made (text_by_place (λ at course. comma_if (nat_lt 0 at) ++ course_json fleet (at + 1) course) 0 others)) (same_sum fleet courses others same)
 
 pub one_course_json : OneCourseJson
-one_course_json inventory playbook failing text other end otherwise first second =
-    let one = same_readings inventory playbook failing first.fleet second.fleet first.plays second.plays first.courses second.courses first.read second.read first.courses_are second.courses_are in (
-      first.text_is ∙ same_courses first.fleet first.courses second.courses one.2 ∙ ap (λ (f : FleetView). courses_json f second.courses) one.0 ∙ sym second.text_is,
-      same_ends first.courses second.courses end otherwise one.2 first.ends second.ends,
-    )
+one_course_json = one_forecast IsJsonOfCourses (λ fleet several courses. courses_json fleet courses) (λ fleet plays courses text end is. (is.text_is, is.ends)) (λ fleet several courses others same. same_courses fleet courses others same)

@@ -1,5 +1,6 @@
 -- What holds of the objects that are written of texts.
-use Rattle.std.specs.Prelude.{◌≡◌, ℕ, List}
+use Rattle.std.specs.Prelude.{ℕ, List}
+use Rattle.plan_command.specs.Laws.{OneTextOf}
 use Rattle.plan_command.specs.declared.end.End.{End}
 use Rattle.rehearse.specs.declared.course_end.CourseEnd.{CourseEnd}
 use Rattle.json_commands.specs.CourseTexts.{IsCourseJson}
@@ -7,12 +8,8 @@ use Rattle.json_commands.specs.PlanTexts.{IsPlanJson}
 
 -- an inventory's text and a playbook's have one plan at most as JSON, and one end
 abbrev pub OnePlanJson : Type 0
-OnePlanJson =
-    (inventory playbook text other : List ℕ) (end otherwise : End) → IsPlanJson inventory playbook text end → IsPlanJson inventory playbook other otherwise
-    → (text ≡ other) × (end ≡ otherwise)
+OnePlanJson = OneTextOf End IsPlanJson
 
 -- with the names of failing hosts they have one text of courses at most, and one end
 abbrev pub OneCourseJson : Type 0
-OneCourseJson =
-    (inventory playbook failing text other : List ℕ) (end otherwise : CourseEnd) → IsCourseJson inventory playbook failing text end → IsCourseJson inventory playbook failing other otherwise
-    → (text ≡ other) × (end ≡ otherwise)
+OneCourseJson = (failing : List ℕ) → OneTextOf CourseEnd (IsCourseJson failing)

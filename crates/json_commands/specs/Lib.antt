@@ -1,4 +1,3 @@
-pub mod LimitsTexts
 pub mod PlanTexts
 pub mod CourseTexts
 pub mod Laws

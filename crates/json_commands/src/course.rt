@@ -1,42 +1,97 @@
-//! From the bytes of an inventory and a playbook to the courses of the plays, where hosts fail.
-ghost use Rattle.std.specs.Prelude.{IfErr, IfOk};
-ghost use Rattle.json_commands.specs.CourseTexts.{IsTrueCourseJsonFault, WritesCourseJson};
+//! The courses of plays, where hosts fail.
+ghost use Rattle.std.specs.Prelude.{◌≡◌, ◌<◌, ◌+◌, ◌++◌, ◌^◌, length, map, nat_lt};
+ghost use Rattle.std.specs.List.{sum_by};
+ghost use Rattle.bounded_io.specs.Sending.{SendsText};
+ghost use Rattle.bounded_io.specs.Writing.{Writes};
+ghost use Rattle.plan_command.specs.Printed.{Sends};
+ghost use Rattle.json_commands.specs.CourseTexts.{IsJsonOfCourses, courses_json};
+ghost use Rattle.json_output.specs.Arrays.{array_text, comma_if, entries_text};
+ghost use Rattle.json_output.specs.PlayJson as json;
+ghost use Rattle.rehearse.specs.CourseSteps.{course_of};
+ghost use Rattle.rehearse.specs.CourseTexts.{batches_opened};
 
-use crate::courses::send_courses_json;
-use plan_command::{PlanFault, read_fleet, read_known_plays};
-use rehearse::{CourseEnd, foresee, last_end};
-use std::alloc::Global;
+use bounded_io::{TextWriter, WriteFault};
+use domains::Fleet;
+use json_output::{write_comma, write_course_json};
+use plan_command::Inputs;
+use recap::write_field;
+use rehearse::{CourseEnd, Forecast, PlayCourse, count_batches, last_end};
 use std::io::Write;
 
-/// Writes as one JSON object what a run of the plays of a playbook on the fleet of an inventory would open to its end, each given as the bytes of its
-/// text, where just the hosts that `failing` names fail, at their first step: as a pattern does, by their names or by those of groups. Nothing goes out
-/// before all was accepted: first the inventory's faults are told, then the playbook's, then the first part of a pattern, of any play, that names nothing,
-/// then the first such part of `failing`. Where a write fails, exactly the first bytes of the object went out, as many as the fault says. Writing takes no memory.
-#[tactic(auto, using(crate::proofs::JsonLemmas::unread_course))]
-pub fn course_json<W: Write>(
-    alloc: Global,
-    inventory: &[u8],
-    playbook: &[u8],
-    failing: &str,
-    out: &mut W,
-) -> Result<CourseEnd, PlanFault>
-    ensures ok { IfOk result (WritesCourseJson inventory.now playbook.now failing.now (W.contents out.old) (W.contents out.new)) }
-    ensures err { IfErr result (IsTrueCourseJsonFault inventory.now playbook.now failing.now (W.contents out.old) (W.contents out.new)) }
+/// Writes the course at this place of a file's.
+#[tactic(auto, using(bounded_io::proofs::Pieces::pieces_of_text))]
+fn write_entry<W: Write>(
+    text: &mut TextWriter<'_, W>,
+    fleet: &Fleet,
+    place: usize,
+    course: &PlayCourse,
+)
+    requires { place < 18446744073709551615 }
+    ensures { Writes W.contents text.old text.new (comma_if (nat_lt 0 place) ++ json.course_json fleet.now (place + 1) (course_of course.now)) }
 {
-    let fleet = match read_fleet(alloc, inventory) {
-        Ok(fleet) => fleet,
-        Err(fault) => return Err(fault),
-    };
-    let plays = match read_known_plays(alloc, &fleet, playbook) {
-        Ok(plays) => plays,
-        Err(fault) => return Err(fault),
-    };
-    let courses = match foresee(alloc, &fleet, plays.as_slice(), failing) {
-        Ok(courses) => courses,
-        Err(fault) => return Err(PlanFault::Pattern(fault)),
-    };
-    match send_courses_json(&fleet, courses.as_slice(), out) {
-        Ok(()) => Ok(last_end(courses.as_slice())),
-        Err(fault) => Err(PlanFault::Write(fault)),
+    write_comma(text, 0 < place);
+    write_course_json(
+        text,
+        fleet,
+        place as u64 + 1,
+        course.boundaries.as_slice(),
+        course.end,
+    );
+}
+
+fn write_each_course<W: Write>(text: &mut TextWriter<'_, W>, fleet: &Fleet, courses: &[PlayCourse])
+    ensures { Writes W.contents text.old text.new (entries_text (λ place course. json.course_json fleet.now (place + 1) course) (map course_of courses.now)) }
+{
+    for place in 0..courses.len() {
+        write_entry(text, fleet, place, &courses[place]);
     }
+}
+
+#[tactic(auto, using(bounded_io::proofs::Pieces::pieces_of_text))]
+fn write_array<W: Write>(text: &mut TextWriter<'_, W>, fleet: &Fleet, courses: &[PlayCourse])
+    ensures { Writes W.contents text.old text.new (array_text (λ place course. json.course_json fleet.now (place + 1) course) (map course_of courses.now)) }
+{
+    text.write_str("[");
+    write_each_course(text, fleet, courses);
+    text.write_str("]");
+}
+
+#[tactic(auto, using(bounded_io::proofs::Pieces::pieces_of_text))]
+fn write_object<W: Write>(text: &mut TextWriter<'_, W>, fleet: &Fleet, courses: &[PlayCourse])
+    requires { sum_by batches_opened (map course_of courses.now) < 2 ^ 64 }
+    ensures { Writes W.contents text.old text.new (courses_json fleet.now (map course_of courses.now)) }
+{
+    text.write_str("{\"plays\":");
+    write_array(text, fleet, courses);
+    write_field(text, ",\"batches\":", count_batches(courses));
+    text.write_str("}\n");
+}
+
+/// Writes the courses as one JSON object. It takes no memory; where a write fails, exactly the first bytes of the object went out, as many as the fault says.
+pub fn course_json<W: Write>(
+    inputs: &Inputs,
+    forecast: &Forecast,
+    out: &mut W,
+) -> Result<CourseEnd, WriteFault>
+    ensures { Sends (IsJsonOfCourses inputs.now.fleet inputs.now.plays.items (map course_of forecast.now.courses.items)) (W.contents out.old) (W.contents out.new) result }
+{
+    let courses = forecast.courses.as_slice();
+    let end = last_end(courses);
+    match send_courses(&inputs.fleet, courses, out) {
+        Ok(()) => Ok(end),
+        Err(fault) => Err(fault),
+    }
+}
+
+fn send_courses<W: Write>(
+    fleet: &Fleet,
+    courses: &[PlayCourse],
+    out: &mut W,
+) -> Result<(), WriteFault>
+    requires { sum_by batches_opened (map course_of courses.now) < 2 ^ 64 }
+    ensures { SendsText (W.contents out.old) (W.contents out.new) (courses_json fleet.now (map course_of courses.now)) result }
+{
+    let mut text = TextWriter::new(out);
+    write_object(&mut text, fleet, courses);
+    text.finish()
 }

@@ -1,21 +1,19 @@
 -- What `lint` writes of the texts of an inventory and a playbook.
-use Rattle.std.specs.Prelude.{◌≡◌, ℕ, Bool, Option, List, ◌++◌}
-use Rattle.std.specs.Io.KnownBytes.{Appends, Keeps}
-use Rattle.bounded_io.specs.Sending.{SendsFirst}
+use Rattle.std.specs.Prelude.{◌≡◌, ℕ, Bool, Option, List, ◌++◌, ⊤}
+use Rattle.std.specs.Io.KnownBytes.{Keeps}
 use Rattle.group_tree.specs.Places.{Inventory}
 use Rattle.inventory_read.specs.Reads as inventories
 use Rattle.domains.specs.FleetViews.{FleetView}
 use Rattle.domains.specs.Fleets.{IsFleetOf}
-use Rattle.domains.specs.declared.pattern_fault.PatternFault.TheVariants.{NoSuchName, Memory}
 use Rattle.play_model.specs.declared.play.Play.{Play}
-use Rattle.plan_command.specs.PlanTexts as plans
-use Rattle.plan_command.specs.PlanTexts.{ArePlaysIn, IsFleetIn, IsUnread}
-use Rattle.plan_command.specs.declared.fault.PlanFault.{PlanFault}
-use Rattle.plan_command.specs.declared.fault.PlanFault.TheVariants.{Read, Fleet, Playbook, Pattern, Write}
+use Rattle.plan_command.specs.Inputs.{ArePlaysIn, IsFleetIn, IsRefused, IsUnread, OfInputs}
+use Rattle.plan_command.specs.Printed.{BreaksText, WritesText}
 use Rattle.lint_rules.specs.Notes.{Note, told}
 use Rattle.lint_rules.specs.NotesText.{IsNotesText, end_of}
 use Rattle.inventory_lints.specs.Fleet.{fleet_notes}
 use Rattle.lint_command.specs.AllNotes.{AreNotesOf}
+use Rattle.lint_command.specs.declared.fault.LintFault.{LintFault}
+use Rattle.lint_command.specs.declared.fault.LintFault.TheVariants.{Refused, Memory, Write}
 use Rattle.lint_rules.specs.declared.end.LintEnd.{LintEnd}
 
 -- the notes on the inventory and the playbook that the texts say, behind the first ones
@@ -44,36 +42,26 @@ pub record IsTextOf (AreNotes : List Note → Type 0) (tells : Note → Bool) (t
   pub ends : end ≡ end_of (told tells notes)
 
 -- that text went out, and nothing else
-pub record WritesNotes (AreNotes : List Note → Type 0) (tells : Note → Bool) (old new : Option (List ℕ)) (end : LintEnd) : Type 0 where
-  pub text : List ℕ
-  pub is : IsTextOf AreNotes tells text end
-  pub written : Appends old new text
+abbrev pub WritesNotes : (List Note → Type 0) → (Note → Bool) → Option (List ℕ) → Option (List ℕ) → LintEnd → Type 0
+WritesNotes AreNotes tells old new end = WritesText (IsTextOf AreNotes tells) old new end
 
 -- it broke off after so many bytes
-pub record BreaksNotes (AreNotes : List Note → Type 0) (tells : Note → Bool) (old new : Option (List ℕ)) (count : ℕ) : Type 0 where
-  pub text : List ℕ
-  pub end : LintEnd
-  pub is : IsTextOf AreNotes tells text end
-  pub written : SendsFirst old new text count
+abbrev pub BreaksNotes : (List Note → Type 0) → (Note → Bool) → Option (List ℕ) → Option (List ℕ) → ℕ → Type 0
+BreaksNotes AreNotes tells old new count = BreaksText (IsTextOf AreNotes tells) old new count
 
--- what the fault says is true: the texts are refused as a plan refuses them, and nothing went out; or the text broke off where the fault says
-abbrev pub IsTrueFault : List Note → List ℕ → List ℕ → (Note → Bool) → Option (List ℕ) → Option (List ℕ) → PlanFault → Type 0
+-- what the fault says is true: a text is refused, or memory was wanting for the notes of texts that are accepted, and nothing went out; or the text broke off where the fault says
+abbrev pub IsTrueFault : List Note → List ℕ → List ℕ → (Note → Bool) → Option (List ℕ) → Option (List ℕ) → LintFault → Type 0
+IsTrueFault first inventory playbook tells old new (Refused fault) = IsRefused inventory playbook fault × Keeps old new
+IsTrueFault first inventory playbook tells old new Memory = OfInputs inventory playbook (λ fleet plays. ⊤) × Keeps old new
 IsTrueFault first inventory playbook tells old new (Write fault) = BreaksNotes (AreNotesIn first inventory playbook) tells old new fault.written
-IsTrueFault first inventory playbook tells old new (Read fault) = plans.IsTrueFault inventory playbook old new (Read fault)
-IsTrueFault first inventory playbook tells old new (Fleet fault) = plans.IsTrueFault inventory playbook old new (Fleet fault)
-IsTrueFault first inventory playbook tells old new (Playbook fault) = plans.IsTrueFault inventory playbook old new (Playbook fault)
-IsTrueFault first inventory playbook tells old new (Pattern fault) = plans.IsTrueFault inventory playbook old new (Pattern fault)
 
 -- the inventory is accepted
 pub record IsAccepted (inventory : List ℕ) : Type 0 where
   pub fleet : FleetView
   pub built : IsFleetIn inventory fleet
 
--- The same of an inventory alone. Want of memory for its notes is told as that for a pattern.
-abbrev pub IsTrueFleetFault : List Note → List ℕ → (Note → Bool) → Option (List ℕ) → Option (List ℕ) → PlanFault → Type 0
+-- the same of an inventory alone
+abbrev pub IsTrueFleetFault : List Note → List ℕ → (Note → Bool) → Option (List ℕ) → Option (List ℕ) → LintFault → Type 0
+IsTrueFleetFault first inventory tells old new (Refused fault) = IsUnread inventory fault × Keeps old new
+IsTrueFleetFault first inventory tells old new Memory = IsAccepted inventory × Keeps old new
 IsTrueFleetFault first inventory tells old new (Write fault) = BreaksNotes (AreFleetNotesIn first inventory) tells old new fault.written
-IsTrueFleetFault first inventory tells old new (Read fault) = IsUnread inventory (Read fault) × Keeps old new
-IsTrueFleetFault first inventory tells old new (Fleet fault) = IsUnread inventory (Fleet fault) × Keeps old new
-IsTrueFleetFault first inventory tells old new (Playbook fault) = ⊥
-IsTrueFleetFault first inventory tells old new (Pattern (NoSuchName name)) = ⊥
-IsTrueFleetFault first inventory tells old new (Pattern Memory) = IsAccepted inventory × Keeps old new

@@ -3,10 +3,12 @@
 
 mod batches;
 mod context;
+mod fault;
 mod lint;
 mod near;
 mod playbook;
 mod targets;
 mod unlimited;
 
+pub use fault::LintFault;
 pub use lint::{lint_fleet_text, lint_text};

@@ -4,9 +4,10 @@ ghost use Rattle.inventory_lints.specs.Repeats.{repeats_given};
 ghost use Rattle.lint_rules.specs.Notes.{isnt_allowed};
 ghost use Rattle.lint_command.specs.LintTexts.{AreFleetNotesIn, AreNotesIn, IsTrueFault, IsTrueFleetFault, WritesNotes};
 
+use crate::fault::LintFault;
 use crate::playbook::list_notes;
 use bumpalo::Bump;
-use domains::{Fleet, PatternFault};
+use domains::Fleet;
 use inventory_lints::{Repeats, Texts, list_fleet_notes};
 use inventory_read::read_inventory;
 use lint_rules::{Allowed, LintEnd, send_notes};
@@ -23,36 +24,35 @@ pub fn lint_fleet_text<W: Write>(
     inventory: &[u8],
     allowed: &Allowed<'_>,
     out: &mut W,
-) -> Result<LintEnd, PlanFault>
+) -> Result<LintEnd, LintFault>
     ensures ok { IfOk result (WritesNotes (AreFleetNotesIn (repeats_given given.entry) inventory.now) (isnt_allowed allowed.now) (W.contents out.old) (W.contents out.new)) }
     ensures err { IfErr result (IsTrueFleetFault (repeats_given given.entry) inventory.now (isnt_allowed allowed.now) (W.contents out.old) (W.contents out.new)) }
 {
     let arena = Bump::new(alloc);
     let tree = match read_inventory(&arena, alloc, inventory) {
         Ok(tree) => tree,
-        Err(fault) => return Err(PlanFault::Read(fault)),
+        Err(fault) => return Err(LintFault::Refused(PlanFault::Read(fault))),
     };
     let fleet = match Fleet::build(alloc, &tree) {
         Ok(fleet) => fleet,
-        Err(fault) => return Err(PlanFault::Fleet(fault)),
+        Err(fault) => return Err(LintFault::Refused(PlanFault::Fleet(fault))),
     };
     let repeats = match Repeats::of(alloc, given) {
         Ok(repeats) => repeats,
-        Err(AllocError) => return Err(PlanFault::Pattern(PatternFault::Memory)),
+        Err(AllocError) => return Err(LintFault::Memory),
     };
     let notes = match list_fleet_notes(alloc, &repeats, &tree, &fleet) {
         Ok(notes) => notes,
-        Err(AllocError) => return Err(PlanFault::Pattern(PatternFault::Memory)),
+        Err(AllocError) => return Err(LintFault::Memory),
     };
     match send_notes(&notes, allowed, out) {
         Ok(end) => Ok(end),
-        Err(fault) => Err(PlanFault::Write(fault)),
+        Err(fault) => Err(LintFault::Write(fault)),
     }
 }
 
 /// Writes the notes on an inventory and a playbook in the same way: after the notes on groups and their hosts those on each play and its steps, in their order. Nothing is written unless both
-/// texts are accepted: the inventory's faults come first, then the playbook's, then the first part of a pattern, of any play, that matches nothing. A failed allocation for the notes is reported
-/// as one for a pattern.
+/// texts are accepted: the inventory's faults come first, then the playbook's, then the first part of a pattern, of any play, that matches nothing.
 pub fn lint_text<W: Write>(
     alloc: Global,
     given: Texts<'_>,
@@ -60,33 +60,33 @@ pub fn lint_text<W: Write>(
     playbook: &[u8],
     allowed: &Allowed<'_>,
     out: &mut W,
-) -> Result<LintEnd, PlanFault>
+) -> Result<LintEnd, LintFault>
     ensures ok { IfOk result (WritesNotes (AreNotesIn (repeats_given given.entry) inventory.now playbook.now) (isnt_allowed allowed.now) (W.contents out.old) (W.contents out.new)) }
     ensures err { IfErr result (IsTrueFault (repeats_given given.entry) inventory.now playbook.now (isnt_allowed allowed.now) (W.contents out.old) (W.contents out.new)) }
 {
     let arena = Bump::new(alloc);
     let tree = match read_inventory(&arena, alloc, inventory) {
         Ok(tree) => tree,
-        Err(fault) => return Err(PlanFault::Read(fault)),
+        Err(fault) => return Err(LintFault::Refused(PlanFault::Read(fault))),
     };
     let fleet = match Fleet::build(alloc, &tree) {
         Ok(fleet) => fleet,
-        Err(fault) => return Err(PlanFault::Fleet(fault)),
+        Err(fault) => return Err(LintFault::Refused(PlanFault::Fleet(fault))),
     };
     let plays = match read_known_plays(alloc, &fleet, playbook) {
         Ok(plays) => plays,
-        Err(fault) => return Err(fault),
+        Err(fault) => return Err(LintFault::Refused(fault)),
     };
     let repeats = match Repeats::of(alloc, given) {
         Ok(repeats) => repeats,
-        Err(AllocError) => return Err(PlanFault::Pattern(PatternFault::Memory)),
+        Err(AllocError) => return Err(LintFault::Memory),
     };
     let notes = match list_notes(alloc, &repeats, &tree, &fleet, plays.as_slice()) {
         Ok(notes) => notes,
-        Err(AllocError) => return Err(PlanFault::Pattern(PatternFault::Memory)),
+        Err(AllocError) => return Err(LintFault::Memory),
     };
     match send_notes(&notes, allowed, out) {
         Ok(end) => Ok(end),
-        Err(fault) => Err(PlanFault::Write(fault)),
+        Err(fault) => Err(LintFault::Write(fault)),
     }
 }

@@ -6,5 +6,4 @@ pub mod JudgeLemmas
 pub mod GroupLemmas
 pub mod OpeningLemmas
 pub mod VerdictLemmas
-pub mod CheckLemmas
 pub mod ValidLemmas

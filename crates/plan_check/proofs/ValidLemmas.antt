@@ -18,15 +18,17 @@ use Rattle.play_model.specs.declared.play.Play.{Play}
 use Rattle.play_model.specs.declared.size.Size.{Size}
 use Rattle.play_model.specs.Sizes.{cap}
 use Rattle.play_forecast.specs.PlayPlans.{aside_at_start, aside_by, first_cap, first_statuses, targets}
-use Rattle.play_forecast.proofs.AlikeLemmas.{AreAlike, one_plan}
-use Rattle.plan_command.proofs.UniqueLemmas.{first_alike, one_fleet_in}
-use Rattle.plan_check.specs.CheckTexts.{IsVerdictIn}
+use Rattle.play_forecast.proofs.AlikeLemmas.{AreAlike}
+use Rattle.plan_command.specs.Inputs.{AreRead}
+use Rattle.plan_command.proofs.UniqueLemmas.{first_plans, one_text_of}
+use Rattle.plan_check.specs.CheckTexts.{IsCheckText}
 use Rattle.plan_check.specs.Laws.{IsValid, OneCheckText, PlansAreValid, ValidIsOfPlans}
 use Rattle.plan_check.specs.Listings.{batches_of}
 use Rattle.plan_check.specs.Names.{Nobody, batches_named, nobody_in}
 use Rattle.plan_check.specs.Verdicts.{Verdict, end_of, judged, valid, verdict_by, verdict_on}
 use Rattle.plan_check.specs.VerdictText.{verdict_text}
 use Rattle.plan_check.specs.PlanErrors.{first_plan_error}
+use Rattle.plan_check.specs.declared.end.CheckEnd.{CheckEnd}
 use Rattle.plan_check.specs.declared.wrong.Wrong.{Wrong}
 use Rattle.plan_check.proofs.LawLemmas.{is_plan, plan_is_fine}
 
@@ -75,15 +77,14 @@ module _ (fleet : FleetView) (statuses : List Status) (most : Option ℕ) (names
       ∙ ap (λ n. verdict_on fleet statuses most (Blocked other n) names) same.1
 
 pub valid_is_of_plans : ValidIsOfPlans
-valid_is_of_plans inventory playbook plan fleet count least told =
-    let play = told.planned.plan.plan.first in
-    told_valid fleet (first_statuses fleet play) (first_cap fleet play) (batches_of plan) told.answer count least told.planned.built.built.sound told.planned.plan.plan.plan.best
-    told.verdict_is
+valid_is_of_plans plan fleet plays count least sound told =
+    let play = told.planned.first in
+    told_valid fleet (first_statuses fleet play) (first_cap fleet play) (batches_of plan) told.answer count least sound told.planned.plan.best told.verdict_is
 
 pub plans_are_valid : PlansAreValid
-plans_are_valid inventory playbook plan fleet verdict told known is =
-    let play = told.planned.plan.plan.first in
-    let there = plan_told fleet (first_statuses fleet play) (first_cap fleet play) (batches_of plan) told.answer told.planned.plan.plan.plan.best known is in
+plans_are_valid plan fleet plays verdict told known is =
+    let play = told.planned.first in
+    let there = plan_told fleet (first_statuses fleet play) (first_cap fleet play) (batches_of plan) told.answer told.planned.plan.best known is in
     (there.0, told.verdict_is ∙ there.1)
 
 -- plays that are alike begin alike
@@ -106,28 +107,20 @@ module _ (fleet : FleetView) (play other : Play) (alike : AreAlike play other) w
   same_cap =
       ap (λ (l : List Size). cap l (length (targets fleet play)) 0) alike.sizes ∙ ap (λ (l : List ℕ). cap other.sizes.items (length l) 0) target
 
-one_verdict : (inventory playbook plan : List ℕ) (fleet : FleetView) (verdict other : Verdict) → IsVerdictIn inventory playbook plan fleet verdict
-    → IsVerdictIn inventory playbook plan fleet other → verdict ≡ other
-one_verdict inventory playbook plan fleet verdict other first second =
-    let its = first.planned.plan in
-    let also = second.planned.plan in
+same_check : (plan inventory playbook : List ℕ) (fleet : FleetView) (plays more : List Play) (text other : List ℕ) (end otherwise : CheckEnd) → AreRead inventory playbook fleet plays
+    → AreRead inventory playbook fleet more → IsCheckText plan fleet plays text end → IsCheckText plan fleet more other otherwise → (text ≡ other) × (end ≡ otherwise)
+same_check plan inventory playbook fleet plays more text other end otherwise read also first second =
+    let its = first.is.planned in
+    let their = second.is.planned in
+    let answer = first.is.answer in
     let names = batches_of plan in
-    let play : Play = its.plan.first in
-    let later : Play = also.plan.first in
-    let alike = first_alike 16 playbook its.plays also.plays its.plan.others also.plan.others play later its.reads also.reads its.plan.are also.plan.are in
-    let one = one_plan fleet play later first.answer second.answer first.held second.held alike its.plan.plan also.plan.plan in
-    first.verdict_is
-    ∙ same_verdict fleet (first_statuses fleet play) (first_cap fleet play) names first.answer second.answer one.0
-    ∙ ap (λ (l : List Status). verdict_on fleet l (first_cap fleet play) second.answer names) (same_statuses fleet play later alike)
-    ∙ ap (λ (o : Option ℕ). verdict_on fleet (first_statuses fleet later) o second.answer names) (same_cap fleet play later alike)
-    ∙ sym second.verdict_is
+    let alike = first_plans inventory playbook fleet plays more answer second.is.answer first.is.held second.is.held read also its their in
+    let verdicts : first.verdict ≡ second.verdict = first.is.verdict_is
+    ∙ same_verdict fleet (first_statuses fleet its.first) (first_cap fleet its.first) names answer second.is.answer alike.1
+    ∙ ap (λ (l : List Status). verdict_on fleet l (first_cap fleet its.first) second.is.answer names) (same_statuses fleet its.first their.first alike.0)
+    ∙ ap (λ (o : Option ℕ). verdict_on fleet (first_statuses fleet their.first) o second.is.answer names) (same_cap fleet its.first their.first alike.0)
+    ∙ sym second.is.verdict_is in
+    (first.text_is ∙ ap (verdict_text fleet) verdicts ∙ sym second.text_is, first.ends ∙ ap end_of verdicts ∙ sym second.ends)
 
 pub one_check_text : OneCheckText
-one_check_text inventory playbook plan text other end otherwise first second =
-    let fleet : FleetView = first.fleet in
-    let same : fleet ≡ second.fleet = one_fleet_in inventory fleet second.fleet first.is.planned.built second.is.planned.built in
-    let also = subst (λ (f : FleetView). IsVerdictIn inventory playbook plan f second.verdict) (sym same) second.is in
-    let verdicts = one_verdict inventory playbook plan fleet first.verdict second.verdict first.is also in (
-      first.text_is ∙ ap (verdict_text fleet) verdicts ∙ ap (λ (f : FleetView). verdict_text f second.verdict) same ∙ sym second.text_is,
-      first.ends ∙ ap end_of verdicts ∙ sym second.ends,
-    )
+one_check_text plan = one_text_of (IsCheckText plan) (same_check plan)

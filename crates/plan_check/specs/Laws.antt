@@ -6,6 +6,8 @@ use Rattle.fleet_states.specs.declared.status.Status.{Status}
 use Rattle.fleet_states.specs.Groups.{groups_of}
 use Rattle.batch_plan.specs.Plans.{IsPlan}
 use Rattle.play_forecast.specs.PlayPlans.{first_cap, first_statuses}
+use Rattle.play_model.specs.declared.play.Play.{Play}
+use Rattle.plan_command.specs.Laws.{OneTextOf}
 use Rattle.plan_check.specs.CheckTexts.{IsCheckText, IsVerdictIn}
 use Rattle.plan_check.specs.Listings.{batches_of}
 use Rattle.plan_check.specs.Names.{batches_named, nobody_in}
@@ -30,18 +32,16 @@ pub record IsValid (fleet : FleetView) (statuses : List Status) (cap : Option �
 -- `valid` is told of plans alone
 abbrev pub ValidIsOfPlans : Type 0
 ValidIsOfPlans =
-    (inventory playbook plan : List ℕ) (fleet : FleetView) (count least : ℕ) → (told : IsVerdictIn inventory playbook plan fleet (valid count least))
-    → IsValid fleet (first_statuses fleet told.planned.plan.plan.first) (first_cap fleet told.planned.plan.plan.first) (batches_of plan) count least
+    (plan : List ℕ) (fleet : FleetView) (plays : List Play) (count least : ℕ) → IsSound fleet → (told : IsVerdictIn plan fleet plays (valid count least))
+    → IsValid fleet (first_statuses fleet told.planned.first) (first_cap fleet told.planned.first) (batches_of plan) count least
 
 -- and of each
 abbrev pub PlansAreValid : Type 0
 PlansAreValid =
-    (inventory playbook plan : List ℕ) (fleet : FleetView) (verdict : Verdict) → (told : IsVerdictIn inventory playbook plan fleet verdict) → nobody_in fleet (batches_of plan) ≡ None
-    → IsPlan (groups_of fleet) (first_statuses fleet told.planned.plan.plan.first) (first_cap fleet told.planned.plan.plan.first) (batches_named fleet (batches_of plan))
+    (plan : List ℕ) (fleet : FleetView) (plays : List Play) (verdict : Verdict) → (told : IsVerdictIn plan fleet plays verdict) → nobody_in fleet (batches_of plan) ≡ None
+    → IsPlan (groups_of fleet) (first_statuses fleet told.planned.first) (first_cap fleet told.planned.first) (batches_named fleet (batches_of plan))
     → (least : ℕ) × (verdict ≡ valid (length (batches_of plan)) least)
 
 -- the texts of an inventory, a playbook and a plan have one text that tells of the plan at most, and one end
 abbrev pub OneCheckText : Type 0
-OneCheckText =
-    (inventory playbook plan text other : List ℕ) (end otherwise : CheckEnd) → IsCheckText inventory playbook plan text end → IsCheckText inventory playbook plan other otherwise
-    → (text ≡ other) × (end ≡ otherwise)
+OneCheckText = (plan : List ℕ) → OneTextOf CheckEnd (IsCheckText plan)

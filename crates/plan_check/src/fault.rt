@@ -1,11 +1,11 @@
 //! Why nothing is told of a plan.
-use plan_command::PlanFault;
+use plan_command::TextFault;
 
-/// What is wrong with one of the three texts, or with the output; of several faults the first in the order inventory, playbook, patterns, plan, output.
-#[derive(Debug, Drop)]
+/// What is wrong with a plan's text, or with the output; the text's fault before the output's.
+#[derive(Clone, Copy, Debug, PartialEq, Eq)]
 pub enum CheckFault {
-    /// The inventory or the playbook is refused as `plan` refuses it, the output broke off, or memory is wanting.
-    Plan(PlanFault),
     /// The line of this number, from 1, is the first of the plan's text that is none of a plan.
     BadPlan { line: usize },
+    /// What is to be told isn't told whole.
+    Text(TextFault),
 }

@@ -1,3 +1,3 @@
+pub mod InputLemmas
 pub mod PlayLemmas
-pub mod TextLemmas
 pub mod UniqueLemmas

@@ -19,8 +19,10 @@ use Rattle.batch_plan.specs.Answers.{IsSameAnswer}
 use Rattle.play_forecast.proofs.AlikeLemmas.{AreAlike, one_plan}
 use Rattle.recap.specs.PlanText.{answer_line, answer_lines, batch_lines, blocked_line, planned_line, plan_text}
 use Rattle.plan_command.specs.Ends.{end_of}
-use Rattle.plan_command.specs.PlanTexts.{IsFleetIn, IsPlaybookPlan}
-use Rattle.plan_command.specs.Laws.{OneInventory, OnePlanText}
+use Rattle.plan_command.specs.Inputs.{AreRead, IsFleetIn}
+use Rattle.plan_command.specs.PlanTexts.{IsFirstPlan, IsPlanAs}
+use Rattle.plan_command.specs.Laws.{OneInventory, OnePlanText, OneTextOf}
+use Rattle.plan_command.specs.declared.end.End.{End}
 
 pub one_inventory : OneInventory
 one_inventory text inventory other first second =
@@ -68,16 +70,44 @@ same_end (Planned plan) (Blocked group waiting) held same = absurd same
 same_end (Blocked group waiting) (Planned plan) held same = absurd same
 same_end (Blocked group waiting) (Blocked other number) held same = refl
 
+-- two texts have one text of a kind of which two readings that say one fleet have one
+pub one_text_of : {Outcome : Type 0} (Is : FleetView → List Play → List ℕ → Outcome → Type 0)
+    → ((inventory playbook : List ℕ) (fleet : FleetView) (plays more : List Play) (text other : List ℕ) (end otherwise : Outcome) → AreRead inventory playbook fleet plays
+    → AreRead inventory playbook fleet more → Is fleet plays text end → Is fleet more other otherwise → (text ≡ other) × (end ≡ otherwise))
+    → OneTextOf Outcome Is
+one_text_of Is one inventory playbook text other end otherwise first second =
+    let same : first.fleet ≡ second.fleet = one_fleet_in inventory first.fleet second.fleet first.read.built second.read.built in
+    let also = subst (λ (f : FleetView). AreRead inventory playbook f second.plays) (sym same) second.read in
+    let holds = subst (λ (f : FleetView). Is f second.plays other otherwise) (sym same) second.holds in
+    one inventory playbook first.fleet first.plays second.plays text other end otherwise first.read also first.holds holds
+
+-- two readings have the same plan, of plays that are written alike
+pub first_plans : (inventory playbook : List ℕ) (fleet : FleetView) (plays more : List Play) (answer other : Answer) (held hosts : List ℕ) → AreRead inventory playbook fleet plays
+    → AreRead inventory playbook fleet more → (its : IsFirstPlan fleet plays answer held) → (their : IsFirstPlan fleet more other hosts)
+    → AreAlike its.first their.first × IsSameAnswer answer other × (held ≡ hosts)
+first_plans inventory playbook fleet plays more answer other held hosts read also its their =
+    let alike = first_alike 16 playbook plays more its.others their.others its.first their.first read.says.reads also.says.reads its.are their.are in
+    let one = one_plan fleet its.first their.first answer other held hosts alike its.plan their.plan in
+    (alike, one.0, one.1)
+
+-- so they have one text of a plan of each kind in which the same answers for such plays are written alike
+module _ (text_of : FleetView → Play → Answer → List ℕ → List ℕ)
+    (alike : (fleet : FleetView) (play other : Play) (answer more : Answer) (held : List ℕ) → AreAlike play other → IsSameAnswer answer more → text_of fleet play answer held ≡ text_of fleet other more held) where
+  same_plan_as : (inventory playbook : List ℕ) (fleet : FleetView) (plays more : List Play) (text other : List ℕ) (end otherwise : End) → AreRead inventory playbook fleet plays
+      → AreRead inventory playbook fleet more → IsPlanAs text_of fleet plays text end → IsPlanAs text_of fleet more other otherwise → (text ≡ other) × (end ≡ otherwise)
+  same_plan_as inventory playbook fleet plays more text other end otherwise read also first second =
+      let one = first_plans inventory playbook fleet plays more first.answer second.answer first.held second.held read also first.plan second.plan in (
+        first.text_is ∙ alike fleet first.plan.first second.plan.first first.answer second.answer first.held one.0 one.1 ∙ ap (text_of fleet second.plan.first second.answer) one.2
+            ∙ sym second.text_is,
+        first.ends ∙ same_end first.answer second.answer first.held one.1 ∙ ap (end_of second.answer) one.2 ∙ sym second.ends,
+      )
+
+  pub one_plan_as : OneTextOf End (IsPlanAs text_of)
+  one_plan_as = one_text_of (IsPlanAs text_of) same_plan_as
+
+pub same_plan_text : (fleet : FleetView) (answer more : Answer) (held : List ℕ) → IsSameAnswer answer more → plan_text fleet answer held ≡ plan_text fleet more held
+same_plan_text fleet answer more held same =
+    let lines = same_lines fleet answer more same in rw (lines.0, lines.1) refl
+
 pub one_plan_text : OnePlanText
-one_plan_text inventory playbook text other end otherwise first second =
-    let fleet : FleetView = first.fleet in
-    let same : fleet ≡ second.fleet = one_fleet_in inventory fleet second.fleet first.plan.built second.plan.built in
-    let its : IsPlaybookPlan fleet playbook first.answer first.held = first.plan.plan in
-    let also : IsPlaybookPlan fleet playbook second.answer second.held = subst (λ (f : FleetView). IsPlaybookPlan f playbook second.answer second.held) (sym same) second.plan.plan in
-    let alike = first_alike 16 playbook its.plays also.plays its.plan.others also.plan.others its.plan.first also.plan.first its.reads also.reads its.plan.are also.plan.are in
-    let one = one_plan fleet its.plan.first also.plan.first first.answer second.answer first.held second.held alike its.plan.plan also.plan.plan in
-    let lines = same_lines fleet first.answer second.answer one.0 in
-    let texts : plan_text fleet first.answer first.held ≡ plan_text fleet second.answer second.held = rw (lines.0, lines.1, one.1) refl in (
-      first.text_is ∙ texts ∙ ap (λ (f : FleetView). plan_text f second.answer second.held) same ∙ sym second.text_is,
-      first.ends ∙ same_end first.answer second.answer first.held one.0 ∙ ap (end_of second.answer) one.1 ∙ sym second.ends,
-    )
+one_plan_text = one_plan_as (λ fleet play answer held. plan_text fleet answer held) (λ fleet play other answer more held alike same. same_plan_text fleet answer more held same)

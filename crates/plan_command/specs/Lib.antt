@@ -1,3 +1,5 @@
 pub mod Ends
+pub mod Inputs
 pub mod PlanTexts
+pub mod Printed
 pub mod Laws

@@ -1,10 +1,9 @@
-//! Why no plan is printed.
-use bounded_io::WriteFault;
+//! Why texts are refused.
 use domains::{FleetFault, PatternFault};
 use inventory_read::ReadFault;
 use playbook_schema::PlayFault;
 
-/// What is wrong with one of the two texts, or with the output; of several faults the first in this order.
+/// What is wrong with one of the two texts; of several faults the first in this order.
 #[derive(Debug, Drop)]
 pub enum PlanFault {
     /// The first text is no inventory.
@@ -15,8 +14,6 @@ pub enum PlanFault {
     Playbook(PlayFault),
     /// A part of a pattern names neither a group nor a host.
     Pattern(PatternFault),
-    /// The output broke off.
-    Write(WriteFault),
 }
 
 impl From<ReadFault> for PlanFault {

@@ -1,6 +1,6 @@
 //! The fleet of an inventory's text.
 ghost use Rattle.std.specs.Prelude.{IfOk, IfErr};
-ghost use Rattle.plan_command.specs.PlanTexts.{IsFleetIn, IsUnread};
+ghost use Rattle.plan_command.specs.Inputs.{IsFleetIn, IsUnread};
 
 use crate::fault::PlanFault;
 use bumpalo::Bump;

@@ -1,6 +1,6 @@
 //! The plays of a playbook's text.
 ghost use Rattle.std.specs.Prelude.{IfErr, IfOk};
-ghost use Rattle.plan_command.specs.PlanTexts.{ArePlaysIn, IsPlaybookFault};
+ghost use Rattle.plan_command.specs.Inputs.{ArePlaysIn, IsPlaybookFault};
 
 use crate::fault::PlanFault;
 use domains::Fleet;

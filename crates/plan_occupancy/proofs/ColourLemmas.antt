@@ -133,33 +133,27 @@ module _ (fleet : FleetView) (hosts_plain : ArePlain fleet.hosts) (groups_plain 
 pub colours_change_no_plan : ColoursChangeNoPlan
 colours_change_no_plan inventory playbook text plain end otherwise first second =
     let fleet : FleetView = first.fleet in
-    let built = first.plan.built in
-    let outlook = plan_outlook (first_statuses fleet first.plan.plan.plan.first) first.answer first.held in
-    let bare : IsSurveyedPlan inventory playbook Plain (plan_text fleet first.answer first.held ++ survey_text Plain fleet outlook) end =
-    record { fleet = fleet; answer = first.answer; held = first.held; plan = first.plan; text_is = refl; ends = first.ends } in
+    let built = first.read.built in
+    let its = first.holds in
+    let outlook = plan_outlook (first_statuses fleet its.plan.first) its.answer its.held in
+    let bare : IsSurveyedPlan Plain fleet first.plays (plan_text fleet its.answer its.held ++ survey_text Plain fleet outlook) end =
+    record { answer = its.answer; held = its.held; plan = its.plan; text_is = refl; ends = its.ends } in
     let hosts = hosts_are_plain inventory built.inventory fleet built.reads built.built in
     let groups = groups_are_plain inventory built.inventory fleet built.reads built.built in
-    let seen = whole (shown_plan fleet hosts groups first.answer first.held outlook) in
-    let one = one_surveyed_plan inventory playbook Plain _ plain end otherwise bare second in
-    (ap shown first.text_is ∙ seen ∙ one.0, one.1)
+    let seen = whole (shown_plan fleet hosts groups its.answer its.held outlook) in
+    let one = one_surveyed_plan Plain inventory playbook _ plain end otherwise (record { fleet = fleet; plays = first.plays; read = first.read; holds = bare }) second in
+    (ap shown its.text_is ∙ seen ∙ one.0, one.1)
 
 pub colours_change_no_course : ColoursChangeNoCourse
-colours_change_no_course inventory playbook failing text plain end otherwise first second =
+colours_change_no_course failing inventory playbook text plain end otherwise first second =
     let fleet : FleetView = first.fleet in
     let built = first.read.built in
+    let its = first.holds in
     let several = nat_lt 1 (length first.plays) in
-    let bare : IsSurveyedCourse inventory playbook failing Plain (surveyed_text Plain fleet several first.courses) end = record {
-      fleet = fleet;
-      plays = first.plays;
-      read = first.read;
-      known = first.known;
-      courses = first.courses;
-      courses_are = first.courses_are;
-      text_is = refl;
-      ends = first.ends;
-    } in
+    let bare : IsSurveyedCourse Plain failing fleet first.plays (surveyed_text Plain fleet several its.courses) end =
+    record { courses = its.courses; forecast = its.forecast; is = record { text_is = refl; ends = its.is.ends } } in
     let hosts = hosts_are_plain inventory built.inventory fleet built.reads built.built in
     let groups = groups_are_plain inventory built.inventory fleet built.reads built.built in
-    let seen = whole (shown_courses fleet hosts groups several first.courses) in
-    let one = one_surveyed_course inventory playbook failing Plain _ plain end otherwise bare second in
-    (ap shown first.text_is ∙ seen ∙ one.0, one.1)
+    let seen = whole (shown_courses fleet hosts groups several its.courses) in
+    let one = one_surveyed_course Plain failing inventory playbook _ plain end otherwise (record { fleet = fleet; plays = first.plays; read = first.read; holds = bare }) second in
+    (ap shown its.is.text_is ∙ seen ∙ one.0, one.1)

@@ -1,6 +1,5 @@
 -- Two texts have one plan with its groups, and with the names of failing hosts one course.
-use Rattle.std.proofs.Common.{◌≡◌, ℕ, ◌+◌, ◌-◌, ◌++◌, zero, suc, Bool, Option, List, [], ◌∷◌, length, map, take, refl, sym, ap, ap₂, ◌∙◌, subst}
-use Rattle.std.specs.Prelude.{nat_lt}
+use Rattle.std.proofs.Common.{◌≡◌, ℕ, ◌+◌, ◌-◌, ◌++◌, zero, suc, Bool, Option, List, [], ◌∷◌, length, map, take, refl, ap, ap₂, ◌∙◌}
 use Rattle.text_syntax.specs.Patterns.{parts_of}
 use Rattle.domains.specs.FleetViews.{FleetView}
 use Rattle.domains.specs.Ids.{host_numbers}
@@ -14,24 +13,22 @@ use Rattle.batch_plan.specs.declared.answers.Answer.{Answer}
 use Rattle.batch_plan.specs.declared.answers.Answer.TheVariants.{Planned, Blocked}
 use Rattle.play_model.specs.declared.on_blocked.OnBlocked.{OnBlocked}
 use Rattle.play_model.specs.declared.play.Play.{Play}
-use Rattle.play_forecast.proofs.AlikeLemmas.{AreAlike, one_plan}
+use Rattle.play_forecast.proofs.AlikeLemmas.{AreAlike}
 use Rattle.play_forecast.specs.Courses.{batches_of, next_batch}
 use Rattle.play_forecast.specs.Files.{Course}
 use Rattle.play_forecast.specs.Laws.{AreSameBoundaries, AreSameCourses, IsSameBoundary}
 use Rattle.play_forecast.specs.PlayPlans.{aside_at_start, aside_by, first_statuses, targets}
 use Rattle.play_forecast.specs.declared.boundary.Boundary.{Boundary}
-use Rattle.recap.specs.PlanText.{plan_text}
 use Rattle.recap.specs.RecapText.{text_by_place}
-use Rattle.plan_command.specs.Ends.{end_of}
-use Rattle.plan_command.specs.PlanTexts.{IsPlaybookPlan}
-use Rattle.plan_command.proofs.UniqueLemmas.{first_alike, one_fleet_in, same_end, same_lines}
+use Rattle.plan_command.proofs.UniqueLemmas.{one_plan_as, same_plan_text}
 use Rattle.rehearse.specs.CourseTexts.{batches_line, batches_opened, numbered}
-use Rattle.rehearse.proofs.OneCourseLemmas.{same_ends, same_readings}
+use Rattle.rehearse.proofs.OneCourseLemmas.{one_forecast}
 use Rattle.rehearse.proofs.SameTextLemmas.{same_batches, same_course, same_many, same_sum}
 use Rattle.occupancy_table.specs.declared.color_mode.ColorMode.{ColorMode}
 use Rattle.occupancy_table.specs.Columns.{Column, planned}
-use Rattle.plan_occupancy.specs.CourseSurveys.{surveyed_lines, surveyed_text}
+use Rattle.plan_occupancy.specs.CourseSurveys.{AreSurveyed, surveyed_lines, surveyed_text}
 use Rattle.plan_occupancy.specs.Laws.{OneSurveyedCourse, OneSurveyedPlan}
+use Rattle.plan_occupancy.specs.PlanSurveys.{surveyed_plan_text}
 use Rattle.plan_occupancy.specs.Surveys.{Aside, Outlook, aside_at, bound_group, course_outlook, first_forcing, forcing, opened, plan_outlook, start_of, survey_text}
 
 same_forcing : (answer other : Answer) → IsSameAnswer answer other → forcing answer ≡ forcing other
@@ -60,27 +57,14 @@ same_plan statuses begun answer other held aside same_start same_answer same_hel
     ∙ ap (λ (m : Option ℕ). outlook_by begun (batches_of other) m held) (same_forcing answer other same_answer) ∙ ap (outlook_by begun (batches_of other) (forcing other)) same_held
 
 pub one_surveyed_plan : OneSurveyedPlan
-one_surveyed_plan inventory playbook paint text other end otherwise first second =
-    let fleet : FleetView = first.fleet in
-    let answer = second.answer in
-    let held = second.held in
-    let same : fleet ≡ second.fleet = one_fleet_in inventory fleet second.fleet first.plan.built second.plan.built in
-    let its : IsPlaybookPlan fleet playbook first.answer first.held = first.plan.plan in
-    let told : (also : IsPlaybookPlan fleet playbook answer held)
-    → other ≡ plan_text fleet answer held ++ survey_text paint fleet (plan_outlook (first_statuses fleet also.plan.first) answer held)
-    → (text ≡ other) × (end ≡ otherwise) = λ also is.
-    let alike = first_alike 16 playbook its.plays also.plays its.plan.others also.plan.others its.plan.first also.plan.first its.reads also.reads its.plan.are also.plan.are in
-    let one = one_plan fleet its.plan.first also.plan.first first.answer answer first.held held alike its.plan.plan also.plan.plan in
-    let lines = same_lines fleet first.answer answer one.0 in
-    let texts : plan_text fleet first.answer first.held ≡ plan_text fleet answer held = rw (lines.0, lines.1, one.1) refl in
-    let begun = same_first fleet its.plan.first also.plan.first alike in
-    let seen = same_plan (first_statuses fleet its.plan.first) (first_statuses fleet also.plan.first) first.answer answer first.held held begun one.0 one.1 in
-    let ends = first.ends ∙ same_end first.answer answer first.held one.0 ∙ ap (end_of answer) one.1 ∙ sym second.ends in
-    (first.text_is ∙ ap₂ ◌++◌ texts (ap (survey_text paint fleet) seen) ∙ sym is, ends) in
-    let Told : FleetView → Type 0 = λ f. (also : IsPlaybookPlan f playbook answer held)
-    → other ≡ plan_text f answer held ++ survey_text paint f (plan_outlook (first_statuses f also.plan.first) answer held)
-    → (text ≡ other) × (end ≡ otherwise) in
-    subst Told same told second.plan.plan second.text_is
+one_surveyed_plan paint = one_plan_as (surveyed_plan_text paint) alike
+  where
+    alike : (fleet : FleetView) (play other : Play) (answer more : Answer) (held : List ℕ) → AreAlike play other → IsSameAnswer answer more
+        → surveyed_plan_text paint fleet play answer held ≡ surveyed_plan_text paint fleet other more held
+    alike fleet play other answer more held written same =
+        let begun = same_first fleet play other written in
+        let seen = same_plan (first_statuses fleet play) (first_statuses fleet other) answer more held held begun same refl in
+        ap₂ ◌++◌ (same_plan_text fleet answer more held same) (ap (survey_text paint fleet) seen)
 
 -- the same boundaries tell the same
 same_opened : (boundary other : Boundary) → IsSameBoundary boundary other → opened boundary ≡ opened other
@@ -145,10 +129,4 @@ module _ (paint : ColorMode) (fleet : FleetView) (several : Bool) where
   same_text courses others same = ap₂ ◌++◌ (same_from 0 courses others same) (ap batches_line (same_sum fleet courses others same))
 
 pub one_surveyed_course : OneSurveyedCourse
-one_surveyed_course inventory playbook failing paint text other end otherwise first second =
-    let one = same_readings inventory playbook failing first.fleet second.fleet first.plays second.plays first.courses second.courses first.read second.read first.courses_are second.courses_are in
-    let several = nat_lt 1 (length first.plays) in (
-      first.text_is ∙ same_text paint first.fleet several first.courses second.courses one.2 ∙ ap (λ n. surveyed_text paint first.fleet (nat_lt 1 n) second.courses) one.1
-          ∙ ap (λ (f : FleetView). surveyed_text paint f (nat_lt 1 (length second.plays)) second.courses) one.0 ∙ sym second.text_is,
-      same_ends first.courses second.courses end otherwise one.2 first.ends second.ends,
-    )
+one_surveyed_course paint = one_forecast (AreSurveyed paint) (surveyed_text paint) (λ fleet plays courses text end is. (is.text_is, is.ends)) (same_text paint)

@@ -6,6 +6,8 @@ use Rattle.play_model.specs.declared.play.Play.{Play}
 use Rattle.play_forecast.specs.Files.{Course}
 use Rattle.play_forecast.specs.PlayPlans.{IsPlanOf, first_statuses}
 use Rattle.batch_plan.specs.declared.answers.Answer.{Answer}
+use Rattle.plan_command.specs.Inputs.{OfInputs}
+use Rattle.plan_command.specs.Laws.{OneTextOf}
 use Rattle.plan_command.specs.declared.end.End.{End}
 use Rattle.rehearse.specs.CourseTexts.{AreCoursesBy}
 use Rattle.rehearse.specs.declared.course_end.CourseEnd.{CourseEnd}
@@ -31,25 +33,22 @@ CoursesStayWithin =
 
 -- an inventory's text and a playbook's have one text of a plan with its groups at most, painted so, and one end
 abbrev pub OneSurveyedPlan : Type 0
-OneSurveyedPlan =
-    (inventory playbook : List ℕ) (paint : ColorMode) (text other : List ℕ) (end otherwise : End) → IsSurveyedPlan inventory playbook paint text end
-    → IsSurveyedPlan inventory playbook paint other otherwise
-    → (text ≡ other) × (end ≡ otherwise)
+OneSurveyedPlan = (paint : ColorMode) → OneTextOf End (IsSurveyedPlan paint)
 
 -- and with the names of failing hosts one text of a course with its groups
 abbrev pub OneSurveyedCourse : Type 0
-OneSurveyedCourse =
-    (inventory playbook failing : List ℕ) (paint : ColorMode) (text other : List ℕ) (end otherwise : CourseEnd) → IsSurveyedCourse inventory playbook failing paint text end
-    → IsSurveyedCourse inventory playbook failing paint other otherwise → (text ≡ other) × (end ≡ otherwise)
+OneSurveyedCourse = (paint : ColorMode) (failing : List ℕ) → OneTextOf CourseEnd (IsSurveyedCourse paint failing)
 
--- a terminal shows of a coloured plan with its groups what the plain one is
+-- a terminal shows of a coloured text of inputs what the plain one is, and both end alike
+abbrev pub IsColoured : (Outcome : Type 0) → (ColorMode → FleetView → List Play → List ℕ → Outcome → Type 0) → Type 0
+IsColoured Outcome Is =
+    (inventory playbook text plain : List ℕ) (end otherwise : Outcome) → OfInputs inventory playbook (λ fleet plays. Is Coloured fleet plays text end)
+    → OfInputs inventory playbook (λ fleet plays. Is Plain fleet plays plain otherwise) → (shown text ≡ plain) × (end ≡ otherwise)
+
+-- so it is with a plan and its groups
 abbrev pub ColoursChangeNoPlan : Type 0
-ColoursChangeNoPlan =
-    (inventory playbook text plain : List ℕ) (end otherwise : End) → IsSurveyedPlan inventory playbook Coloured text end → IsSurveyedPlan inventory playbook Plain plain otherwise
-    → (shown text ≡ plain) × (end ≡ otherwise)
+ColoursChangeNoPlan = IsColoured End IsSurveyedPlan
 
--- and of a coloured course what the plain one is
+-- and with a course
 abbrev pub ColoursChangeNoCourse : Type 0
-ColoursChangeNoCourse =
-    (inventory playbook failing text plain : List ℕ) (end otherwise : CourseEnd) → IsSurveyedCourse inventory playbook failing Coloured text end
-    → IsSurveyedCourse inventory playbook failing Plain plain otherwise → (shown text ≡ plain) × (end ≡ otherwise)
+ColoursChangeNoCourse = (failing : List ℕ) → IsColoured CourseEnd (λ paint fleet plays text end. IsSurveyedCourse paint failing fleet plays text end)

@@ -1,24 +1,26 @@
-//! From the bytes of an inventory and a playbook to the text of the course, with the groups of each play.
-ghost use Rattle.std.specs.Prelude.{◌<◌, ◌^◌, ◌++◌, All, IfErr, IfOk, map};
+//! The text of courses, with the groups of each play.
+ghost use Rattle.std.specs.Prelude.{◌<◌, ◌^◌, ◌++◌, All, IfOk, map};
 ghost use Rattle.std.specs.List.{sum_by};
 ghost use Rattle.bounded_io.specs.Sending.{SendsText};
 ghost use Rattle.bounded_io.specs.Writing.{Writes};
+ghost use Rattle.domains.specs.FleetViews.{IsSound};
 ghost use Rattle.rehearse.specs.CourseSteps.{course_of};
-ghost use Rattle.rehearse.specs.CourseTexts.{batches_opened, course_lines, numbered};
+ghost use Rattle.plan_command.specs.Printed.{Prints};
+ghost use Rattle.rehearse.specs.CourseTexts.{IsForecast, batches_opened, course_lines, numbered};
 ghost use Rattle.recap.specs.RecapText.{text_by_place};
 ghost use Rattle.plan_occupancy.specs.Surveys.{course_outlook, survey_text};
 ghost use Rattle.plan_occupancy.specs.Inside.{AreSurveysOf, IsSurveyOf, IsWalked};
-ghost use Rattle.plan_occupancy.specs.CourseSurveys.{IsTrueCourseFaultBeside, WritesSurveyedCourse, surveyed_lines, surveyed_text};
+ghost use Rattle.plan_occupancy.specs.CourseSurveys.{AreSurveyed, surveyed_lines, surveyed_text};
 
 use crate::manner::Manner;
 use crate::occupancy_report::{OccupancyReport, survey_course};
 use crate::writing::write_survey;
 use bounded_io::{TextWriter, WriteFault};
-use domains::{Fleet, PatternFault};
+use domains::Fleet;
 use occupancy_table::ColorMode;
-use plan_command::{PlanFault, read_fleet, read_known_plays};
+use plan_command::{Inputs, TextFault};
 use recap::write_field;
-use rehearse::{CourseEnd, PlayCourse, count_batches, foresee, last_end, write_course};
+use rehearse::{CourseEnd, Forecast, PlayCourse, count_batches, last_end, write_course};
 use std::alloc::{AllocError, Global};
 use std::io::Write;
 
@@ -111,44 +113,32 @@ fn send_courses<W: Write>(
     text.finish()
 }
 
-/// Writes what a run of the plays of a playbook on the fleet of an inventory would open to its end, where just the hosts that `failing` names fail, as `course_text` does, and
-/// below each play how many hosts of each limited group are down while each batch runs, who is down at the play's beginning, and which group holds whom that was set aside. The
-/// cells of full groups are coloured where the paint says so. Nothing goes out before all was accepted: the faults are told as the course alone tells them. Where a write
-/// fails, exactly the first bytes of the text went out, as many as the fault says. Writing takes no memory.
+/// Writes the courses as `course_text` does, and below each play how many hosts of each limited group are down while each batch runs, who is down at the play's beginning, and
+/// which group holds whom that was set aside. The cells of full groups are coloured where the paint says so. Nothing goes out where memory is wanting; where a write fails,
+/// exactly the first bytes of the text went out, as many as the fault says. Writing takes no memory.
+#[tactic(auto, using(crate::proofs::WalkLemmas::all_walked, crate::proofs::WalkLemmas::good_courses))]
 pub fn surveyed_course<W: Write>(
     alloc: Global,
-    inventory: &[u8],
-    playbook: &[u8],
-    failing: &str,
+    inputs: &Inputs,
+    forecast: &Forecast,
     paint: ColorMode,
     out: &mut W,
-) -> Result<CourseEnd, PlanFault>
-    ensures ok { IfOk result (WritesSurveyedCourse inventory.now playbook.now failing.now paint (W.contents out.old) (W.contents out.new)) }
-    ensures err { IfErr result (IsTrueCourseFaultBeside inventory.now playbook.now failing.now paint (W.contents out.old) (W.contents out.new)) }
+) -> Result<CourseEnd, TextFault>
+    requires sound { IsSound inputs.now.fleet }
+    requires forecast { IsForecast inputs.now.fleet inputs.now.plays.items (map course_of forecast.now.courses.items) }
+    ensures { Prints (AreSurveyed paint inputs.now.fleet inputs.now.plays.items (map course_of forecast.now.courses.items)) (W.contents out.old) (W.contents out.new) result }
 {
-    let fleet = match read_fleet(alloc, inventory) {
-        Ok(fleet) => fleet,
-        Err(fault) => return Err(fault),
-    };
-    let plays = match read_known_plays(alloc, &fleet, playbook) {
-        Ok(plays) => plays,
-        Err(fault) => return Err(fault),
-    };
-    let courses = match foresee(alloc, &fleet, plays.as_slice(), failing) {
-        Ok(courses) => courses,
-        Err(fault) => return Err(PlanFault::Pattern(fault)),
-    };
-    let courses = courses.as_slice();
-    let surveys = match survey_all(alloc, &fleet, courses) {
-        Ok(surveys) => surveys,
-        Err(_refused) => return Err(PlanFault::Pattern(PatternFault::Memory)),
+    let courses = forecast.courses.as_slice();
+    let Ok(surveys) = survey_all(alloc, &inputs.fleet, courses) else {
+        return Err(TextFault::Memory);
     };
     let manner = Manner {
-        several: plays.len() > 1,
+        several: inputs.plays.len() > 1,
         paint,
     };
-    match send_courses(&fleet, manner, courses, surveys.as_slice(), out) {
-        Ok(()) => Ok(last_end(courses)),
-        Err(fault) => Err(PlanFault::Write(fault)),
+    let end = last_end(courses);
+    match send_courses(&inputs.fleet, manner, courses, surveys.as_slice(), out) {
+        Ok(()) => Ok(end),
+        Err(fault) => Err(TextFault::Write(fault)),
     }
 }

@@ -1,22 +1,23 @@
-//! From the bytes of an inventory and a playbook to the text of the plan, with its groups.
-ghost use Rattle.std.specs.Prelude.{◌≡◌, ◌++◌, IfErr, IfOk};
+//! From the fleet and the plays of inputs to the text of the plan, with its groups.
+ghost use Rattle.std.specs.Prelude.{◌≡◌, ◌++◌, IfOk};
 ghost use Rattle.bounded_io.specs.Sending.{SendsText};
 ghost use Rattle.bounded_io.specs.Writing.{Writes};
 ghost use Rattle.domains.specs.Ids.{host_numbers};
 ghost use Rattle.play_forecast.specs.PlayPlans.{IsPlanOf, aside_at_start, first_statuses};
 ghost use Rattle.recap.specs.PlanText as texts;
 ghost use Rattle.plan_occupancy.specs.Inside.{IsSurveyOf, IsSurveyedPlay, planned_text};
-ghost use Rattle.plan_occupancy.specs.PlanSurveys.{IsTrueFaultBeside, WritesSurveyedPlan};
+ghost use Rattle.plan_command.specs.Printed.{Prints};
+ghost use Rattle.plan_occupancy.specs.PlanSurveys.{IsSurveyedPlan};
 
 use crate::occupancy_report::{OccupancyReport, survey_plan};
 use crate::writing::write_survey;
 use batch_plan::{set_aside, start};
 use bounded_io::{TextWriter, WriteFault};
-use domains::{Fleet, PatternFault};
+use domains::Fleet;
 use fleet_states::Status;
 use group_tree::HostId;
 use occupancy_table::ColorMode;
-use plan_command::{End, PlanFault, end_of, read_fleet, read_known_plays};
+use plan_command::{End, Inputs, TextFault, end_of};
 use play_forecast::{PlayPlan, plan_play};
 use play_model::Play;
 use recap::write_plan_lines;
@@ -93,34 +94,24 @@ fn send_plan<W: Write>(
     text.finish()
 }
 
-/// Writes the plan of the first play of a playbook on the fleet of an inventory, each given as the bytes of its text, and below it how many hosts of each limited group are
-/// down while each batch runs, who is down at the start, and which group holds whom that was set aside. The cells of full groups are coloured where the paint says so. Nothing
-/// goes out before both were accepted: the faults are told as the plan alone tells them. Where a write fails, exactly the first bytes of the text went out, as many as the
-/// fault says. Writing takes no memory.
+/// Writes the plan of the first of the plays, and below it how many hosts of each limited group are down while each batch runs, who is down at the start, and which group holds
+/// whom that was set aside. The cells of full groups are coloured where the paint says so. Nothing goes out where memory is wanting; where a write fails, exactly the first bytes
+/// of the text went out, as many as the fault says. Writing takes no memory.
+#[tactic(auto, using(plan_command::proofs::PlayLemmas::first_of, crate::proofs::SurveyLemmas::written_is))]
 pub fn surveyed_plan<W: Write>(
     alloc: Global,
-    inventory: &[u8],
-    playbook: &[u8],
+    inputs: &Inputs,
     paint: ColorMode,
     out: &mut W,
-) -> Result<End, PlanFault>
-    ensures ok { IfOk result (WritesSurveyedPlan inventory.now playbook.now paint (W.contents out.old) (W.contents out.new)) }
-    ensures err { IfErr result (IsTrueFaultBeside inventory.now playbook.now paint (W.contents out.old) (W.contents out.new)) }
+) -> Result<End, TextFault>
+    ensures { Prints (IsSurveyedPlan paint inputs.now.fleet inputs.now.plays.items) (W.contents out.old) (W.contents out.new) result }
 {
-    let fleet = match read_fleet(alloc, inventory) {
-        Ok(fleet) => fleet,
-        Err(fault) => return Err(fault),
+    let Ok(plan) = survey_play(alloc, &inputs.fleet, &inputs.plays[0]) else {
+        return Err(TextFault::Memory);
     };
-    let plays = match read_known_plays(alloc, &fleet, playbook) {
-        Ok(plays) => plays,
-        Err(fault) => return Err(fault),
-    };
-    let plan = match survey_play(alloc, &fleet, &plays[0]) {
-        Ok(plan) => plan,
-        Err(_refused) => return Err(PlanFault::Pattern(PatternFault::Memory)),
-    };
-    match send_plan(&fleet, paint, &plan, out) {
-        Ok(()) => Ok(end_of(&plan.planned.answer, plan.planned.held.as_slice())),
-        Err(fault) => Err(PlanFault::Write(fault)),
+    let end = end_of(&plan.planned.answer, plan.planned.held.as_slice());
+    match send_plan(&inputs.fleet, paint, &plan, out) {
+        Ok(()) => Ok(end),
+        Err(fault) => Err(TextFault::Write(fault)),
     }
 }

@@ -1,5 +1,5 @@
 -- Two texts and the names of failing hosts have one course.
-use Rattle.std.proofs.Common.{◌≡◌, ℕ, ◌++◌, Option, List, [], ◌∷◌, length, map, refl, sym, ap, ◌∙◌, subst}
+use Rattle.std.proofs.Common.{◌≡◌, ℕ, ◌++◌, Bool, Option, List, [], ◌∷◌, length, map, refl, sym, ap, ◌∙◌, subst}
 use Rattle.std.proofs.lemmas.Option.{same_Some}
 use Rattle.std.proofs.lemmas.Slice.Zip.{AllZip-long}
 use Rattle.std.specs.List.{AllZip}
@@ -26,7 +26,9 @@ use Rattle.playbook_schema.specs.Plays.{WrittenPlay, plays_of}
 use Rattle.plan_command.proofs.UniqueLemmas.{one_fleet_in}
 use Rattle.rehearse.proofs.SameTextLemmas.{same_text_from}
 use Rattle.rehearse.specs.CourseLaws.{OneCourseText}
-use Rattle.rehearse.specs.CourseTexts.{AreCoursesBy, AreRead, IsEndOf, courses_text, end_of, failing_by, play_by, setting_by}
+use Rattle.plan_command.specs.Inputs.{AreRead}
+use Rattle.plan_command.specs.Laws.{OneTextOf}
+use Rattle.rehearse.specs.CourseTexts.{AreCoursesBy, IsEndOf, IsTextOfCourses, OfForecast, courses_text, end_of, failing_by, play_by, setting_by}
 use Rattle.rehearse.specs.declared.course_end.CourseEnd.{CourseEnd}
 
 -- plays that are written alike
@@ -115,11 +117,23 @@ same_readings inventory playbook failing fleet other plays others courses more f
     let long = AllZip-long IsPlay (plays_of one.document) plays one.says ∙ sym (AllZip-long IsPlay (plays_of one.document) others says) in
     (same, long, same_courses fleet (failing_by fleet failing) (plays_of one.document) plays others courses more one.says says are their)
 
+-- two texts and the names of failing hosts have one text of courses of a kind in which the same courses are written alike
+module _ (Is : FleetView → List Play → List Course → List ℕ → CourseEnd → Type 0) (text_of : FleetView → Bool → List Course → List ℕ)
+    (tells : (fleet : FleetView) (plays : List Play) (courses : List Course) (text : List ℕ) (end : CourseEnd) → Is fleet plays courses text end
+    → (text ≡ text_of fleet (nat_lt 1 (length plays)) courses) × IsEndOf courses end)
+    (alike : (fleet : FleetView) (several : Bool) (courses others : List Course) → AreSameCourses courses others → text_of fleet several courses ≡ text_of fleet several others) where
+  pub one_forecast : (failing : List ℕ) → OneTextOf CourseEnd (OfForecast Is failing)
+  one_forecast failing inventory playbook text other end otherwise first second =
+      let its = first.holds in
+      let their = second.holds in
+      let one = same_readings inventory playbook failing first.fleet second.fleet first.plays second.plays its.courses their.courses first.read second.read its.forecast.are their.forecast.are in
+      let told = tells first.fleet first.plays its.courses text end its.is in
+      let also = tells second.fleet second.plays their.courses other otherwise their.is in
+      let several = nat_lt 1 (length first.plays) in (
+        told.0 ∙ alike first.fleet several its.courses their.courses one.2 ∙ ap (λ n. text_of first.fleet (nat_lt 1 n) their.courses) one.1
+            ∙ ap (λ (f : FleetView). text_of f (nat_lt 1 (length second.plays)) their.courses) one.0 ∙ sym also.0,
+        same_ends its.courses their.courses end otherwise one.2 told.1 also.1,
+      )
+
 pub one_course_text : OneCourseText
-one_course_text inventory playbook failing text other end otherwise first second =
-    let one = same_readings inventory playbook failing first.fleet second.fleet first.plays second.plays first.courses second.courses first.read second.read first.courses_are second.courses_are in
-    let several = nat_lt 1 (length first.plays) in (
-      first.text_is ∙ same_text_from first.fleet 0 several first.courses second.courses one.2 ∙ ap (λ n. courses_text first.fleet (nat_lt 1 n) second.courses) one.1
-          ∙ ap (λ (f : FleetView). courses_text f (nat_lt 1 (length second.plays)) second.courses) one.0 ∙ sym second.text_is,
-      same_ends first.courses second.courses end otherwise one.2 first.ends second.ends,
-    )
+one_course_text = one_forecast IsTextOfCourses courses_text (λ fleet plays courses text end is. (is.text_is, is.ends)) (λ fleet several courses others same. same_text_from fleet 0 several courses others same)

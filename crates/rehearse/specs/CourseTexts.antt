@@ -1,12 +1,9 @@
 -- What the plays of a file come to where just these hosts fail, each at its first step; and its text.
-use Rattle.std.specs.Prelude.{◌≡◌, ◌⊎◌, ℕ, ◌+◌, ◌-◌, Bool, true, false, nat_lt, if◌then◌else◌, Option, Some, None, List, [], ◌∷◌, ◌++◌, codes, length, map}
+use Rattle.std.specs.Prelude.{◌≡◌, ℕ, ◌+◌, ◌-◌, Bool, true, false, nat_lt, if◌then◌else◌, Option, Some, None, List, [], ◌∷◌, ◌++◌, codes, length, map}
 use Rattle.std.specs.List.{find, list_any, sum_by}
-use Rattle.std.specs.Io.KnownBytes.{Appends, Keeps}
-use Rattle.bounded_io.specs.Sending.{SendsFirst}
 use Rattle.text_syntax.specs.Patterns.{parts_of}
 use Rattle.domains.specs.FleetViews.{FleetView}
-use Rattle.domains.specs.Patterns.{IsPatternFault, named_hosts, names_nothing}
-use Rattle.domains.specs.declared.pattern_fault.PatternFault.{PatternFault}
+use Rattle.domains.specs.Patterns.{named_hosts, names_nothing}
 use Rattle.fleet_states.specs.Batches.{Fails}
 use Rattle.fleet_states.specs.Starts.{start_statuses}
 use Rattle.fleet_states.specs.declared.status.Status.{Status}
@@ -18,9 +15,6 @@ use Rattle.play_forecast.specs.Files.{AreCourses, Course, PlaySetting, last_stat
 use Rattle.play_forecast.specs.PlayPlans.{targets}
 use Rattle.play_forecast.specs.declared.end.End.{End}
 use Rattle.play_forecast.specs.declared.end.End.TheVariants as ending
-use Rattle.plan_command.specs.PlanTexts.{ArePlaysIn, IsFleetIn, IsRefusedAfter, IsUnread}
-use Rattle.plan_command.specs.declared.fault.PlanFault.{PlanFault}
-use Rattle.plan_command.specs.declared.fault.PlanFault.TheVariants.{Read, Fleet, Playbook, Pattern, Write}
 use Rattle.recap.specs.LimitsText.{field_text}
 use Rattle.recap.specs.RecapText.{boundary_lines, end_line, text_by_place}
 use Rattle.rehearse.specs.Stacks.{fail_first}
@@ -113,48 +107,27 @@ pub record IsEndOf (courses : List Course) (end : CourseEnd) : Type 0 where
   pub are : courses ≡ before ++ last ∷ []
   pub ends : end ≡ end_of last.end (last_statuses [] last.boundaries)
 
--- both texts say a fleet and plays
-pub record AreRead (inventory playbook : List ℕ) (fleet : FleetView) (plays : List Play) : Type 0 where
-  pub built : IsFleetIn inventory fleet
-  pub says : ArePlaysIn fleet playbook plays
+-- courses of these plays, whoever fails in them
+pub record IsForecast (fleet : FleetView) (plays : List Play) (courses : List Course) : Type 0 where
+  pub fails : Fails
+  pub are : AreCoursesBy fleet fails plays courses
 
--- the text of the courses of the plays that both texts say, where just the named hosts fail; and how the last of them ends
-pub record IsCourseText (inventory playbook failing : List ℕ) (text : List ℕ) (end : CourseEnd) : Type 0 where
-  pub fleet : FleetView
-  pub plays : List Play
-  pub read : AreRead inventory playbook fleet plays
+-- those in which just the named hosts fail
+pub record AreForecast (failing : List ℕ) (fleet : FleetView) (plays : List Play) (courses : List Course) : Type 0 where
   pub known : find (names_nothing fleet) (parts_of failing) ≡ None
+  pub are : AreCoursesBy fleet (failing_by fleet failing) plays courses
+
+-- a text of this kind of them, and an end
+pub record OfForecast (Is : FleetView → List Play → List Course → List ℕ → CourseEnd → Type 0) (failing : List ℕ) (fleet : FleetView) (plays : List Play) (text : List ℕ) (end : CourseEnd) : Type 0 where
   pub courses : List Course
-  pub courses_are : AreCoursesBy fleet (failing_by fleet failing) plays courses
+  pub forecast : AreForecast failing fleet plays courses
+  pub is : Is fleet plays courses text end
+
+-- the text of courses in lines, and how the last of them ends
+pub record IsTextOfCourses (fleet : FleetView) (plays : List Play) (courses : List Course) (text : List ℕ) (end : CourseEnd) : Type 0 where
   pub text_is : text ≡ courses_text fleet (nat_lt 1 (length plays)) courses
   pub ends : IsEndOf courses end
 
--- the text of the courses went out, and nothing else
-pub record WritesCourse (inventory playbook failing : List ℕ) (old new : Option (List ℕ)) (end : CourseEnd) : Type 0 where
-  pub text : List ℕ
-  pub is : IsCourseText inventory playbook failing text end
-  pub written : Appends old new text
-
--- it broke off after so many bytes
-pub record BreaksCourse (inventory playbook failing : List ℕ) (old new : Option (List ℕ)) (count : ℕ) : Type 0 where
-  pub text : List ℕ
-  pub end : CourseEnd
-  pub is : IsCourseText inventory playbook failing text end
-  pub written : SendsFirst old new text count
-
--- both texts are accepted, and the fault is that of the names of failing hosts, or want of memory
-pub record IsNobodyToFail (inventory playbook failing : List ℕ) (fault : PatternFault) : Type 0 where
-  pub fleet : FleetView
-  pub plays : List Play
-  pub read : AreRead inventory playbook fleet plays
-  pub refused : IsPatternFault fleet (parts_of failing) fault
-
--- what the fault says is true and nothing went out: the inventory is refused so, or it is accepted and the playbook is, or both are accepted and a name is that
--- neither a host nor a group has; or the text of the courses broke off where the fault says
-abbrev pub IsTrueCourseFault : List ℕ → List ℕ → List ℕ → Option (List ℕ) → Option (List ℕ) → PlanFault → Type 0
-IsTrueCourseFault inventory playbook failing old new (Read fault) = IsUnread inventory (Read fault) × Keeps old new
-IsTrueCourseFault inventory playbook failing old new (Fleet fault) = IsUnread inventory (Fleet fault) × Keeps old new
-IsTrueCourseFault inventory playbook failing old new (Playbook fault) = IsRefusedAfter inventory playbook (Playbook fault) × Keeps old new
-IsTrueCourseFault inventory playbook failing old new (Pattern fault) =
-    (IsRefusedAfter inventory playbook (Pattern fault) ⊎ IsNobodyToFail inventory playbook failing fault) × Keeps old new
-IsTrueCourseFault inventory playbook failing old new (Write fault) = BreaksCourse inventory playbook failing old new fault.written
+-- the text of the courses of these plays, where just the named hosts fail
+abbrev pub IsCourseText : List ℕ → FleetView → List Play → List ℕ → CourseEnd → Type 0
+IsCourseText failing fleet plays text end = OfForecast IsTextOfCourses failing fleet plays text end

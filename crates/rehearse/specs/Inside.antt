@@ -6,7 +6,7 @@ use Rattle.bounded_io.specs.declared.text_writer.TextWriter.{TextWriter}
 use Rattle.fleet_states.specs.Starts.{start_statuses}
 use Rattle.play_model.specs.declared.play.Play.{Play}
 use Rattle.play_forecast.specs.PlayPlans.{targets}
-use Rattle.plan_command.specs.PlanTexts.{ArePlaysIn, IsFleetIn}
+use Rattle.plan_command.specs.Inputs.{ArePlaysIn, IsFleetIn}
 use Rattle.rehearse.specs.Histories.{HistoryView}
 use Rattle.rehearse.specs.Replies.{Telling}
 use Rattle.rehearse.specs.declared.opening.FirstPlay.{FirstPlay}

@@ -5,7 +5,7 @@ use Rattle.fleet_states.specs.Starts.{start_statuses}
 use Rattle.fleet_states.specs.declared.status.Status.{Status}
 use Rattle.play_model.specs.declared.play.Play.{Play}
 use Rattle.play_forecast.specs.PlayPlans.{targets}
-use Rattle.plan_command.specs.PlanTexts.{ArePlaysIn, IsFleetIn}
+use Rattle.plan_command.specs.Inputs.{ArePlaysIn, IsFleetIn}
 use Rattle.rehearse.specs.Plays.{IsRehearsalOf}
 use Rattle.rehearse.specs.Stacks.{RehearsalView}
 

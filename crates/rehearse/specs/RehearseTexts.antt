@@ -5,7 +5,7 @@ use Rattle.bounded_io.specs.Sending.{SendsFirst}
 use Rattle.domains.specs.FleetViews.{FleetView}
 use Rattle.fleet_states.specs.declared.status.Status.{Status}
 use Rattle.play_model.specs.declared.play.Play.{Play}
-use Rattle.plan_command.specs.PlanTexts.{IsRefusedAfter, IsUnread}
+use Rattle.plan_command.specs.Inputs.{IsRefusedAfter, IsUnread}
 use Rattle.plan_command.specs.declared.fault.PlanFault.{PlanFault}
 use Rattle.rehearse.specs.Stacks.{RehearsalView}
 use Rattle.rehearse.specs.Histories.{HistoryView, unbegun}

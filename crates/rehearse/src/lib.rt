@@ -13,6 +13,7 @@ mod fail_answer;
 mod fault;
 mod first_play;
 mod following;
+mod forecast;
 mod help;
 mod history;
 mod hosts;
@@ -49,6 +50,7 @@ pub use course_end::CourseEnd;
 pub use fault::RehearseFault;
 pub use first_play::{rehearse_play, rehearse_text};
 pub use following::first_boundary;
+pub use forecast::{Forecast, course_text, foresee_inputs};
 pub use history::History;
 pub use laws::{
     an_undone_command_leaves_nothing, one_course_text, sessions_rehearse, undoing_all_leads_back,
@@ -56,9 +58,7 @@ pub use laws::{
 pub use line::answer;
 pub use lines::MAX_LINE;
 pub use opening::Opening;
-pub use printing::{
-    count_batches, course_text, foresee, foresee_from, last_end, send_courses, write_course,
-};
+pub use printing::{count_batches, foresee, foresee_from, last_end, send_courses, write_course};
 pub use prompt::Prompt;
 pub use rehearsal::Rehearsal;
 pub use rehearsal_laws::{

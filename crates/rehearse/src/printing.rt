@@ -1,4 +1,4 @@
-//! From the bytes of an inventory and a playbook to the text of the course, where hosts fail.
+//! The courses of plays where hosts fail, and their text.
 ghost use Rattle.std.specs.Prelude.{◌≡◌, ◌≤◌, ◌<◌, ◌^◌, ◌*◌, ◌+◌, IfErr, IfOk, None, length, map, nat_lt};
 ghost use Rattle.std.specs.List.{find, sum_by};
 ghost use Rattle.bounded_io.specs.Sending.{SendsText};
@@ -7,7 +7,7 @@ ghost use Rattle.text_syntax.specs.Patterns.{parts_of};
 ghost use Rattle.domains.specs.Patterns.{IsPatternFault, names_nothing};
 ghost use Rattle.fleet_states.specs.Batches.{fails_in};
 ghost use Rattle.rehearse.specs.CourseSteps.{course_of};
-ghost use Rattle.rehearse.specs.CourseTexts.{AreCoursesBy, AreCoursesFrom, AreRead, IsEndOf, IsTrueCourseFault, WritesCourse, batches_opened, course_lines, courses_lines_from, courses_text_from, failing_by, numbered};
+ghost use Rattle.rehearse.specs.CourseTexts.{AreCoursesBy, AreCoursesFrom, IsEndOf, batches_opened, course_lines, courses_lines_from, courses_text_from, failing_by, numbered};
 
 use crate::advance::first_steps;
 use crate::course::PlayCourse;
@@ -16,7 +16,6 @@ use crate::courses::{follow_plays, follow_plays_from};
 use bounded_io::{TextWriter, WriteFault};
 use domains::{Fleet, PatternFault};
 use fleet_states::Status;
-use plan_command::{PlanFault, read_fleet, read_known_plays};
 use play_model::Play;
 use recap::{Recap, write_field, write_numbered, write_play};
 use std::alloc::Global;
@@ -167,36 +166,4 @@ pub fn foresee_from(
 {
     let steps = failing_steps(alloc, fleet, failing)?;
     Ok(follow_plays_from(alloc, fleet, plays, steps.as_slice(), statuses)?)
-}
-
-/// Writes what a run of the plays of a playbook on the fleet of an inventory would open to its end, each given as the bytes of its text, where just the hosts that
-/// `failing` names fail, at their first step: as a pattern does, by their names or by those of groups. Nothing goes out before all was accepted: first the
-/// inventory's faults are told, then the playbook's, then the first part of a pattern, of any play, that names nothing, then the first such part of `failing`.
-/// Where a write fails, exactly the first bytes of the text went out, as many as the fault says. Writing takes no memory.
-pub fn course_text<W: Write>(
-    alloc: Global,
-    inventory: &[u8],
-    playbook: &[u8],
-    failing: &str,
-    out: &mut W,
-) -> Result<CourseEnd, PlanFault>
-    ensures ok { IfOk result (WritesCourse inventory.now playbook.now failing.now (W.contents out.old) (W.contents out.new)) }
-    ensures err { IfErr result (IsTrueCourseFault inventory.now playbook.now failing.now (W.contents out.old) (W.contents out.new)) }
-{
-    let fleet = match read_fleet(alloc, inventory) {
-        Ok(fleet) => fleet,
-        Err(fault) => return Err(fault),
-    };
-    let plays = match read_known_plays(alloc, &fleet, playbook) {
-        Ok(plays) => plays,
-        Err(fault) => return Err(fault),
-    };
-    let courses = match foresee(alloc, &fleet, plays.as_slice(), failing) {
-        Ok(courses) => courses,
-        Err(fault) => return Err(PlanFault::Pattern(fault)),
-    };
-    match send_courses(&fleet, plays.len() > 1, 0, courses.as_slice(), out) {
-        Ok(()) => Ok(last_end(courses.as_slice())),
-        Err(fault) => Err(PlanFault::Write(fault)),
-    }
 }

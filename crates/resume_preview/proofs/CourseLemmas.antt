@@ -12,7 +12,8 @@ use Rattle.play_forecast.specs.declared.end.End.{End}
 use Rattle.play_forecast.specs.declared.end.End.TheVariants.{Finished, Held, Blocked, TooManyFailed, AllFailed}
 use Rattle.play_model.specs.declared.play.Play.{Play}
 use Rattle.play_read.specs.Reads.{IsReadAs}
-use Rattle.rehearse.proofs.CourseTextLemmas.{counted, few_plays}
+use Rattle.plan_command.proofs.PlayLemmas.{few_plays}
+use Rattle.rehearse.proofs.CourseTextLemmas.{counted}
 use Rattle.rehearse.specs.CourseTexts.{AreCoursesFrom, failing_by, play_by}
 use Rattle.resume_state.specs.declared.inputs.Resumption.{Resumption}
 use Rattle.resume_preview.specs.Asked.{GoesOnWith, Question}

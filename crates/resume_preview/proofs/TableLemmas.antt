@@ -9,7 +9,7 @@ use Rattle.fleet_states.specs.declared.status.Status.{Status}
 use Rattle.journal.specs.States.{JournalState, rested}
 use Rattle.journal_writer.proofs.DownLemmas.{rested_at}
 use Rattle.journal_writer.proofs.ResumeLemmas.{left_down}
-use Rattle.plan_command.specs.PlanTexts.{IsFleetIn}
+use Rattle.plan_command.specs.Inputs.{IsFleetIn}
 use Rattle.recap.specs.LimitsTable.{table_by, table_with}
 use Rattle.resume_state.specs.Resumptions.{IsMended, RefusesMended}
 use Rattle.resume_state.specs.declared.fault.ResumeFault.{ResumeFault}

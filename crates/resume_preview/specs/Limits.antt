@@ -7,7 +7,7 @@ use Rattle.fleet_index.specs.NumberLists.{has_number, list_at}
 use Rattle.fleet_states.specs.Statuses.{is_down, status_at}
 use Rattle.fleet_states.specs.declared.status.Status.{Status}
 use Rattle.journal.specs.States.{JournalState, rested}
-use Rattle.plan_command.specs.PlanTexts.{IsFleetIn}
+use Rattle.plan_command.specs.Inputs.{IsFleetIn}
 use Rattle.recap.specs.LimitsTable.{table_with}
 use Rattle.resume_state.specs.Resumptions.{IsMended, RefusesMended}
 use Rattle.resume_state.specs.declared.fault.ResumeFault.{ResumeFault}

@@ -7,7 +7,7 @@ use Rattle.domains.specs.Patterns.{names_nothing}
 use Rattle.host_vars.specs.declared.vars.Vars.{Vars}
 use Rattle.play_model.specs.declared.play.Play.{Play}
 use Rattle.play_forecast.specs.PlayPlans.{named_parts, parts_of_play}
-use Rattle.plan_command.specs.PlanTexts.{ArePlaysIn}
+use Rattle.plan_command.specs.Inputs.{ArePlaysIn}
 use Rattle.journal.specs.States.{JournalState}
 use Rattle.roll_run.proofs.Following.{known_first}
 use Rattle.run_command.proofs.PlayLemmas.{known_from}

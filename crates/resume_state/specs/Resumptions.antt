@@ -13,7 +13,7 @@ use Rattle.fleet_states.specs.declared.status.Status.TheVariants.{Idle, Waiting,
 use Rattle.host_vars.specs.declared.vars.Vars.{Vars}
 use Rattle.play_model.specs.declared.play.Play.{Play}
 use Rattle.play_forecast.specs.PlayPlans.{named_parts, targets}
-use Rattle.plan_command.specs.PlanTexts.{ArePlaysIn}
+use Rattle.plan_command.specs.Inputs.{ArePlaysIn}
 use Rattle.journal.specs.Digests.{digest_of}
 use Rattle.journal.specs.States.{JournalState, begins, is_under_way, most_number, plays_of, rested, resumes, start}
 use Rattle.journal_writer.specs.Resumings.{plays_before, resumed_start}

@@ -1,6 +1,6 @@
 -- What the words ask for is what is done.
-use Rattle.std.proofs.Common.{◌≡◌, ℕ, Bool, true, false, Option, Some, None, List, Result, Ok, Err, inl, inr, refl, sym, subst}
-use Rattle.std.specs.Prelude.{IfOk, IfErr, OnOk, is_some, option_map, ◌⊎◌, ◌||◌}
+use Rattle.std.proofs.Common.{◌≡◌, ℕ, Bool, true, false, Option, Some, None, List, Result, refl, sym, subst}
+use Rattle.std.specs.Prelude.{is_some, option_map, ◌||◌}
 use Rattle.command_line.specs.Operands.{Word}
 use Rattle.command_line.specs.Wishes.{Wish, plain, wished}
 use Rattle.command_line.specs.Words as words
@@ -10,8 +10,6 @@ use Rattle.host_track.specs.Endings.{Ending}
 use Rattle.event_log.specs.Events.{Event}
 use Rattle.event_log.specs.Told.{Work}
 use Rattle.rollout.specs.Endings.{Reporting, MayHelp, form_of}
-use Rattle.rollout.specs.Groups.{PlansBy}
-use Rattle.rollout.specs.Pictures.{IsOfPicture, LosesPicture}
 use Rattle.rollout.specs.Runs.{Acts, FollowsLine}
 use Rattle.rollout.specs.Systems.{Sources}
 use Rattle.rollout.specs.declared.fault.Fault.{Fault}
@@ -48,16 +46,3 @@ module _ (journals : Wish → Sources → Source → Source → Option (List ℕ
     acts = subst (λ (w : Wish). Acts journals may (is_some w.stop_file) w sources line input_old input_new out_old out_new result logs) of_wish
         (subst (λ (b : Bool). Acts journals may b wish sources line input_old input_new out_old out_new result logs) of_asks acts);
   }
-
--- how a plan ends behind which a picture was drawn or not
-pub drawn_so : (groups : Bool) (color failing : Option (List ℕ)) (sources : Sources) (inventory playbook : Source) (input_old input_new out_old out_new : Option (List ℕ))
-    (printed : Result Status Fault) (drawn : Result (Unit {0}) Fault) (result : Result Status Fault) → PlansBy groups color failing sources inventory playbook input_old input_new out_old out_new printed
-    → IfErr drawn IsOfPicture → OnOk drawn (result ≡ printed) → IfErr drawn (λ fault. IfOk printed (λ _. result ≡ Err fault)) → IfErr printed (λ fault. result ≡ Err fault)
-    → PlansBy groups color failing sources inventory playbook input_old input_new out_old out_new result
-    ⊎ LosesPicture groups color failing sources inventory playbook input_old input_new out_old out_new result
-drawn_so groups color failing sources inventory playbook input_old input_new out_old out_new (Ok status) (Ok done) result prints why ok lost err =
-    inl (subst (PlansBy groups color failing sources inventory playbook input_old input_new out_old out_new) (sym ok) prints)
-drawn_so groups color failing sources inventory playbook input_old input_new out_old out_new (Ok status) (Err fault) result prints why ok lost err =
-    inr (record { status = status; prints = prints; fault = fault; is = lost; why = why })
-drawn_so groups color failing sources inventory playbook input_old input_new out_old out_new (Err fault) drawn result prints why ok lost err =
-    inl (subst (PlansBy groups color failing sources inventory playbook input_old input_new out_old out_new) (sym err) prints)

@@ -13,3 +13,5 @@ pub mod States
 pub mod Outlooks
 pub mod PlainNames
 pub mod OverTexts
+pub mod Drawing
+pub mod Courses

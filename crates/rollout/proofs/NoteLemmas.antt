@@ -4,9 +4,8 @@ use Rattle.std.specs.Prelude.{◌⊎◌, IfErr, IfOk}
 use Rattle.std.specs.Io.KnownBytes.{Appends, Keeps}
 use Rattle.std.proofs.KnownBytes.{Keeps-trans}
 use Rattle.bounded_io.specs.declared.write_fault.WriteFault.{WriteFault}
-use Rattle.domains.specs.declared.pattern_fault.PatternFault.TheVariants.{NoSuchName, Memory}
-use Rattle.plan_command.specs.declared.fault.PlanFault.{PlanFault}
-use Rattle.plan_command.specs.declared.fault.PlanFault.TheVariants as planning
+use Rattle.lint_command.specs.declared.fault.LintFault.{LintFault}
+use Rattle.lint_command.specs.declared.fault.LintFault.TheVariants as linting
 use Rattle.inventory_lints.specs.Repeats.{repeat_notes}
 use Rattle.lint_rules.specs.Notes.{isnt_allowed}
 use Rattle.lint_command.specs.LintTexts.{BreaksNotes}
@@ -24,20 +23,15 @@ appends_after (Some before) (Some now) None text keeps appends = absurd appends
 appends_after (Some before) (Some now) (Some after) text keeps appends = subst (λ (bytes : List ℕ). after ≡ bytes ++ text) keeps appends
 
 -- nothing went out before notes failed otherwise than by breaking off
-pub kept_before : (allowed inventory : List ℕ) (playbook : Option (List ℕ)) (old mid : Option (List ℕ)) (cause : PlanFault) → is_lost cause ≡ false → IsTrueOn (isnt_allowed allowed) (repeat_notes inventory playbook) inventory playbook old mid cause → Keeps old mid
-kept_before allowed inventory None old mid (planning.Read fault) none fails = fails.1
-kept_before allowed inventory None old mid (planning.Fleet fault) none fails = fails.1
-kept_before allowed inventory None old mid (planning.Playbook fault) none fails = absurd fails
-kept_before allowed inventory None old mid (planning.Pattern (NoSuchName name)) none fails = absurd fails
-kept_before allowed inventory None old mid (planning.Pattern Memory) none fails = fails.1
-kept_before allowed inventory (Some playbook) old mid (planning.Read fault) none fails = fails.1
-kept_before allowed inventory (Some playbook) old mid (planning.Fleet fault) none fails = fails.1
-kept_before allowed inventory (Some playbook) old mid (planning.Playbook fault) none fails = fails.1
-kept_before allowed inventory (Some playbook) old mid (planning.Pattern fault) none fails = fails.1
-kept_before allowed inventory playbook old mid (planning.Write fault) none fails = absurd (cc)
+pub kept_before : (allowed inventory : List ℕ) (playbook : Option (List ℕ)) (old mid : Option (List ℕ)) (cause : LintFault) → is_lost cause ≡ false → IsTrueOn (isnt_allowed allowed) (repeat_notes inventory playbook) inventory playbook old mid cause → Keeps old mid
+kept_before allowed inventory None old mid (linting.Refused fault) none fails = fails.1
+kept_before allowed inventory None old mid linting.Memory none fails = fails.1
+kept_before allowed inventory (Some playbook) old mid (linting.Refused fault) none fails = fails.1
+kept_before allowed inventory (Some playbook) old mid linting.Memory none fails = fails.1
+kept_before allowed inventory playbook old mid (linting.Write fault) none fails = absurd (cc)
 
 -- where the notes broke off, that is what is told
-module _ (allowed inventory : List ℕ) (old mid new : Option (List ℕ)) (lost : WriteFault) (fault : Fault) (tells : TellsLost mid new (planning.Write lost) (Err fault)) where
+module _ (allowed inventory : List ℕ) (old mid new : Option (List ℕ)) (lost : WriteFault) (fault : Fault) (tells : TellsLost mid new (linting.Write lost) (Err fault)) where
   is_lost_fault : fault ≡ lines.Write lost
   is_lost_fault = let both : ◌≡◌ {A = Result Status Fault} (Err fault) (Err (lines.Write lost)) = tells.tells in cc
 
@@ -46,17 +40,15 @@ module _ (allowed inventory : List ℕ) (old mid new : Option (List ℕ)) (lost 
       let broken : Option (List ℕ) → Type 0 = λ (end : Option (List ℕ)). BreaksNotes (AreNotesOn (repeat_notes inventory playbook) inventory playbook) (isnt_allowed allowed) old end lost.written in
       record { lost = lost; is = is_lost_fault; breaks = subst broken (sym tells.same) breaks }
 
-  lost_after : (playbook : Option (List ℕ)) → IsTrueOn (isnt_allowed allowed) (repeat_notes inventory playbook) inventory playbook old mid (planning.Write lost) → LosesNotes allowed inventory playbook old new fault
+  lost_after : (playbook : Option (List ℕ)) → IsTrueOn (isnt_allowed allowed) (repeat_notes inventory playbook) inventory playbook old mid (linting.Write lost) → LosesNotes allowed inventory playbook old new fault
   lost_after None fails = lost_of None fails
   lost_after (Some playbook) fails = lost_of (Some playbook) fails
 
-lost_so : (allowed inventory : List ℕ) (playbook : Option (List ℕ)) (old mid new : Option (List ℕ)) (cause : PlanFault) → IsTrueOn (isnt_allowed allowed) (repeat_notes inventory playbook) inventory playbook old mid cause → (fault : Fault)
+lost_so : (allowed inventory : List ℕ) (playbook : Option (List ℕ)) (old mid new : Option (List ℕ)) (cause : LintFault) → IsTrueOn (isnt_allowed allowed) (repeat_notes inventory playbook) inventory playbook old mid cause → (fault : Fault)
     → TellsLost mid new cause (Err fault) → LosesNotes allowed inventory playbook old new fault
-lost_so allowed inventory playbook old mid new (planning.Write lost) fails fault tells = lost_after allowed inventory old mid new lost fault tells playbook fails
-lost_so allowed inventory playbook old mid new (planning.Read read) fails fault tells = absurd (let lost = tells.lost in cc)
-lost_so allowed inventory playbook old mid new (planning.Fleet fleet) fails fault tells = absurd (let lost = tells.lost in cc)
-lost_so allowed inventory playbook old mid new (planning.Playbook play) fails fault tells = absurd (let lost = tells.lost in cc)
-lost_so allowed inventory playbook old mid new (planning.Pattern pattern) fails fault tells = absurd (let lost = tells.lost in cc)
+lost_so allowed inventory playbook old mid new (linting.Write lost) fails fault tells = lost_after allowed inventory old mid new lost fault tells playbook fails
+lost_so allowed inventory playbook old mid new (linting.Refused refused) fails fault tells = absurd (let lost = tells.lost in cc)
+lost_so allowed inventory playbook old mid new linting.Memory fails fault tells = absurd (let lost = tells.lost in cc)
 
 module _ (inventory : List ℕ) (playbook : Option (List ℕ)) (old mid new : Option (List ℕ)) where
   printed_after : (status : Status) → Keeps old mid → PrintsFaults inventory playbook mid new status → PrintsFaults inventory playbook old new status
@@ -78,7 +70,7 @@ module _ (inventory : List ℕ) (playbook : Option (List ℕ)) (old mid new : Op
       })
   all_lost_after fault keeps (inr wants) = inr (wants.0, Keeps-trans old mid new keeps wants.1)
 
-  module _ (allowed : List ℕ) (cause : PlanFault) (fails : IsTrueOn (isnt_allowed allowed) (repeat_notes inventory playbook) inventory playbook old mid cause) where
+  module _ (allowed : List ℕ) (cause : LintFault) (fails : IsTrueOn (isnt_allowed allowed) (repeat_notes inventory playbook) inventory playbook old mid cause) where
     says_after : (status : Status) → TellsInstead inventory playbook mid new cause (Ok status) → SaysOf allowed inventory playbook old new status
     says_after status (inl lost) = absurd (let tells = lost.tells in cc)
     says_after status (inr tells) = inr (printed_after status (kept_before allowed inventory playbook old mid cause tells.0 fails) tells.1)

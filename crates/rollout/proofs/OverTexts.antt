@@ -2,10 +2,12 @@
 use Rattle.std.proofs.Common.{ℕ, List, Option, Result, Ok, Err, inr}
 use Rattle.std.specs.Prelude.{IfErr, IfOk}
 use Rattle.command_line.specs.declared.command.Source.{Source}
+use Rattle.domains.specs.FleetViews.{FleetView}
+use Rattle.play_model.specs.declared.play.Play.{Play}
 use Rattle.rollout.specs.Inputs.{IsTextOf, ReadsBoth}
 use Rattle.rollout.specs.Lists.{IsBadList, IsListFault}
 use Rattle.rollout.specs.Systems.{Sources}
-use Rattle.rollout.specs.Texts.{OverOne, OverThree, OverTwo, ReadsThree}
+use Rattle.rollout.specs.Texts.{OverInputs, OverOne, OverThree, OverTwo, ReadsThree, SayInputs}
 use Rattle.rollout.specs.declared.fault.Fault.{Fault}
 use Rattle.rollout.specs.declared.fault.Fault.TheVariants.{Line, Input, Read, Fleet, Playbook, Pattern, Mixed, LongLine, JournalThere, JournalWrite, ChildrenIgnored, Stopped, Locked, BadJournal, OtherInputs, NeedsResult, OutputIsInput, NoValue, BadPlan, Unexpected, BadList, Write, Memory}
 use Rattle.rollout.specs.declared.status.Status.{Status}
@@ -29,6 +31,11 @@ module _ (sources : Sources) (inventory : Source) (input_old input_new out_old o
       record { first = first; second = second; third = third; texts = texts; holds = says }
   over_three playbook plan Says Refuses first second third (Err fault) texts says refuses =
       inr (record { first = first; second = second; third = third; texts = texts; holds = refuses })
+
+  pub over_inputs : (playbook : Source) (Does : FleetView → List Play → Result Status Fault → Type 0) (fleet : FleetView) (plays : List Play) (result : Result Status Fault)
+      → SayInputs sources inventory playbook input_old input_new fleet plays → Does fleet plays result → OverInputs Does sources inventory playbook input_old input_new out_old out_new result
+  over_inputs playbook Does fleet plays (Ok status) say does = record { fleet = fleet; plays = plays; say = say; holds = does }
+  over_inputs playbook Does fleet plays (Err fault) say does = inr (record { fleet = fleet; plays = plays; say = say; holds = does })
 
 -- the fault of a list that is none tells of it
 pub bad_so : (why lacking : Type 0) (list : List ℕ) (fault : Fault) → why → lacking → IsListFault list fault → IsBadList why lacking list fault

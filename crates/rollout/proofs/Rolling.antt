@@ -53,7 +53,6 @@ plan_stops_nothing (plan.Read fault) same = cc
 plan_stops_nothing (plan.Fleet fault) same = cc
 plan_stops_nothing (plan.Playbook fault) same = cc
 plan_stops_nothing (plan.Pattern fault) same = cc
-plan_stops_nothing (plan.Write fault) same = cc
 
 -- a run that was stopped was asked to end
 pub stops_where_asked : (asks refuses : Bool) (cause : RunTextFault) → MayBreakText asks refuses cause → fault_of cause ≡ Stopped → asks ≡ true

@@ -2,7 +2,6 @@ pub mod Calls
 pub mod Checks
 pub mod Children
 pub mod Commands
-pub mod Courses
 pub mod Details
 pub mod Endings
 pub mod Expecting
@@ -26,6 +25,7 @@ pub mod Pages
 pub mod Pictures
 pub mod PlanFaults
 pub mod Plans
+pub mod Printed
 pub mod RehearsalFaults
 pub mod Rehearsals
 pub mod ResumeFaults

@@ -7,11 +7,11 @@ use Rattle.lint_command.specs.LintTexts.{AreFleetNotesIn, AreNotesIn, BreaksNote
 use Rattle.inventory_lints.specs.Repeats.{repeat_notes}
 use Rattle.lint_rules.specs.Notes.{Note, isnt_allowed}
 use Rattle.lint_rules.specs.declared.end.LintEnd.{LintEnd}
-use Rattle.plan_command.specs.declared.fault.PlanFault.{PlanFault}
-use Rattle.plan_command.specs.declared.fault.PlanFault.TheVariants as planning
+use Rattle.lint_command.specs.declared.fault.LintFault.{LintFault}
+use Rattle.lint_command.specs.declared.fault.LintFault.TheVariants as linting
 use Rattle.rollout.specs.LintFaults.{AreFaultless, LosesFaults, PrintsFaults, WantsMemory}
 use Rattle.rollout.specs.Lists.{RefusesList}
-use Rattle.rollout.specs.PlanFaults.{fault_of}
+use Rattle.rollout.specs.PlanFaults.{fault_of_lint}
 use Rattle.rollout.specs.Status.{status_of_notes}
 use Rattle.rollout.specs.Systems.{Sources}
 use Rattle.rollout.specs.Texts.{OverOne, OverTwo}
@@ -29,7 +29,7 @@ abbrev pub WritesOn : (Note → Bool) → List Note → List ℕ → Option (Lis
 WritesOn tells first inventory playbook old new end = WritesNotes (AreNotesOn first inventory playbook) tells old new end
 
 -- what a fault of noting them says
-abbrev pub IsTrueOn : (Note → Bool) → List Note → List ℕ → Option (List ℕ) → Option (List ℕ) → Option (List ℕ) → PlanFault → Type 0
+abbrev pub IsTrueOn : (Note → Bool) → List Note → List ℕ → Option (List ℕ) → Option (List ℕ) → Option (List ℕ) → LintFault → Type 0
 IsTrueOn tells first inventory None old new fault = IsTrueFleetFault first inventory tells old new fault
 IsTrueOn tells first inventory (Some playbook) old new fault = IsTrueFault first inventory playbook tells old new fault
 
@@ -47,8 +47,8 @@ pub record LosesNotes (allowed inventory : List ℕ) (playbook : Option (List �
 
 -- noting failed so
 pub record IsRefusedSo (allowed inventory : List ℕ) (playbook : Option (List ℕ)) (old new : Option (List ℕ)) (fault : Fault) : Type 0 where
-  pub cause : PlanFault
-  pub is : fault ≡ fault_of cause
+  pub cause : LintFault
+  pub is : fault ≡ fault_of_lint cause
   pub is_true : IsTrueOn (isnt_allowed allowed) (repeat_notes inventory playbook) inventory playbook old new cause
 
 -- the notes went out, and so the texts are accepted; or all faults of the texts did
@@ -67,33 +67,31 @@ FailsOver allowed inventory playbook old new fault =
     ⊎ (LosesAll inventory playbook old new fault ⊎ (AreFaultless inventory playbook × IsRefusedSo allowed inventory playbook old new fault))
 
 -- nothing is wrong with the texts, and the fault tells the cause
-pub record IsFaultlessFor (inventory : List ℕ) (playbook : Option (List ℕ)) (old new : Option (List ℕ)) (cause : PlanFault) (fault : Fault) : Type 0 where
+pub record IsFaultlessFor (inventory : List ℕ) (playbook : Option (List ℕ)) (old new : Option (List ℕ)) (cause : LintFault) (fault : Fault) : Type 0 where
   pub faultless : AreFaultless inventory playbook
-  pub tells : fault ≡ fault_of cause
+  pub tells : fault ≡ fault_of_lint cause
   pub same : new ≡ old
 
 -- all faults of the texts were told, or broke off, or memory was wanting; of texts without any the cause is
-abbrev pub TellsAll : List ℕ → Option (List ℕ) → Option (List ℕ) → Option (List ℕ) → PlanFault → Result Status Fault → Type 0
+abbrev pub TellsAll : List ℕ → Option (List ℕ) → Option (List ℕ) → Option (List ℕ) → LintFault → Result Status Fault → Type 0
 TellsAll inventory playbook old new cause (Ok status) = PrintsFaults inventory playbook old new status
 TellsAll inventory playbook old new cause (Err fault) =
     LosesAll inventory playbook old new fault ⊎ IsFaultlessFor inventory playbook old new cause fault
 
 -- notes broke off
-abbrev pub is_lost : PlanFault → Bool
-is_lost (planning.Write fault) = true
-is_lost (planning.Read fault) = false
-is_lost (planning.Fleet fault) = false
-is_lost (planning.Playbook fault) = false
-is_lost (planning.Pattern fault) = false
+abbrev pub is_lost : LintFault → Bool
+is_lost (linting.Write fault) = true
+is_lost (linting.Refused fault) = false
+is_lost linting.Memory = false
 
 -- that alone is told
-pub record TellsLost (old new : Option (List ℕ)) (cause : PlanFault) (result : Result Status Fault) : Type 0 where
+pub record TellsLost (old new : Option (List ℕ)) (cause : LintFault) (result : Result Status Fault) : Type 0 where
   pub lost : is_lost cause ≡ true
-  pub tells : result ≡ Err (fault_of cause)
+  pub tells : result ≡ Err (fault_of_lint cause)
   pub same : new ≡ old
 
 -- what comes in place of notes that failed so: all faults of the texts, unless the notes themselves broke off
-abbrev pub TellsInstead : List ℕ → Option (List ℕ) → Option (List ℕ) → Option (List ℕ) → PlanFault → Result Status Fault → Type 0
+abbrev pub TellsInstead : List ℕ → Option (List ℕ) → Option (List ℕ) → Option (List ℕ) → LintFault → Result Status Fault → Type 0
 TellsInstead inventory playbook old new cause result =
     TellsLost old new cause result ⊎ ((is_lost cause ≡ false) × TellsAll inventory playbook old new cause result)
 

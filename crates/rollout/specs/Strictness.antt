@@ -3,7 +3,7 @@ use Rattle.std.specs.Prelude.{◌≡◌, ◌⊎◌, ℕ, Bool, true, false, Some
 use Rattle.undefined_names.specs.NoValues.{IsFirstMiss}
 use Rattle.undefined_names.specs.declared.no_value.NoValue as declared
 use Rattle.plan_command.specs.declared.fault.PlanFault.{PlanFault}
-use Rattle.command_preview.specs.WordTexts.{IsRefused}
+use Rattle.plan_command.specs.Inputs.{IsRefused}
 use Rattle.rollout.specs.PlanFaults.{fault_of}
 use Rattle.rollout.specs.declared.fault.Fault.{Fault}
 use Rattle.rollout.specs.declared.fault.Fault.TheVariants.{NoValue}

@@ -10,8 +10,9 @@ use expectations::{ExpectFault, Unexpected};
 use fork_pool::StepFault;
 use inventory_read::ReadFault;
 use journal::JournalFault;
+use lint_command::LintFault;
 use plan_check::CheckFault;
-use plan_command::PlanFault;
+use plan_command::{PlanFault, TextFault};
 use playbook_schema::PlayFault;
 use rehearse::RehearseFault;
 use resume_preview::{OutlookFault, PreviewFault};
@@ -149,7 +150,35 @@ impl From<PlanFault> for Fault {
             PlanFault::Fleet(fault) => Fault::Fleet(fault),
             PlanFault::Playbook(fault) => Fault::Playbook(fault),
             PlanFault::Pattern(fault) => Fault::Pattern(fault),
-            PlanFault::Write(fault) => Fault::Write(fault),
+        }
+    }
+}
+
+impl From<TextFault> for Fault {
+    ghost use Rattle.std.specs.Prelude.{◌≡◌};
+    ghost use Rattle.rollout.specs.PlanFaults.{fault_of_text};
+
+    ghost from_gives = { λ text fault. fault ≡ fault_of_text text };
+
+    fn from(fault: TextFault) -> Fault {
+        match fault {
+            TextFault::Memory => Fault::Memory,
+            TextFault::Write(fault) => Fault::Write(fault),
+        }
+    }
+}
+
+impl From<LintFault> for Fault {
+    ghost use Rattle.std.specs.Prelude.{◌≡◌};
+    ghost use Rattle.rollout.specs.PlanFaults.{fault_of_lint};
+
+    ghost from_gives = { λ lint fault. fault ≡ fault_of_lint lint };
+
+    fn from(fault: LintFault) -> Fault {
+        match fault {
+            LintFault::Refused(fault) => Fault::from(fault),
+            LintFault::Memory => Fault::Memory,
+            LintFault::Write(fault) => Fault::Write(fault),
         }
     }
 }
@@ -162,7 +191,7 @@ impl From<CheckFault> for Fault {
 
     fn from(fault: CheckFault) -> Fault {
         match fault {
-            CheckFault::Plan(fault) => Fault::from(fault),
+            CheckFault::Text(fault) => Fault::from(fault),
             CheckFault::BadPlan { line } => Fault::BadPlan { line },
         }
     }
@@ -176,9 +205,8 @@ impl From<ExpectFault> for Fault {
 
     fn from(fault: ExpectFault) -> Fault {
         match fault {
-            ExpectFault::Plan(fault) => Fault::from(fault),
+            ExpectFault::Text(fault) => Fault::from(fault),
             ExpectFault::Unexpected(unexpected) => Fault::Unexpected(unexpected),
-            ExpectFault::Memory => Fault::Memory,
         }
     }
 }

@@ -3,13 +3,14 @@ ghost use Rattle.std.specs.Prelude.{◌≡◌, IfOk, IfErr};
 ghost use Rattle.rollout.specs.Inputs.{IsTextOf, IsUnreadable, InputUnreadable, ReadsBoth};
 ghost use Rattle.rollout.specs.Locks.{IsGiven};
 ghost use Rattle.rollout.specs.Systems.{sources_of};
-ghost use Rattle.rollout.specs.Texts.{LacksOne, ReadsThree};
+ghost use Rattle.rollout.specs.Texts.{LackInputs, LacksOne, ReadsThree, SayInputs};
 
 use crate::fault::Fault;
 use crate::source::read_source;
 use crate::system::System;
 use bounded_io::{Input, InputFault};
 use command_line::Source;
+use plan_command::{Inputs, read_inputs};
 use std::alloc::Global;
 
 /// What an input gave when it was read before the others.
@@ -88,6 +89,29 @@ pub(crate) fn read_behind<S: System, I: Input>(
             drop(inventory);
             Err(fault)
         }
+    }
+}
+
+/// The fleet and the plays that both texts say. No fault of a text is told before both were read whole.
+pub fn read_plays<S: System, I: Input>(
+    system: &S,
+    alloc: Global,
+    inventory: Source,
+    playbook: Source,
+    input: &mut I,
+) -> Result<Inputs, Fault>
+    ensures ok { IfOk result (λ inputs. SayInputs (sources_of (S.known system.now) (I.is_reliable input.old)) inventory playbook
+        (I.remaining input.old) (I.remaining input.new) inputs.fleet inputs.plays.items) }
+    ensures err { IfErr result
+        (LackInputs (sources_of (S.known system.now) (I.is_reliable input.old)) inventory playbook (I.remaining input.old) (I.remaining input.new)) }
+{
+    let (inventory, playbook) = match read_both(system, alloc, inventory, playbook, input) {
+        Ok(texts) => texts,
+        Err(fault) => return Err(fault),
+    };
+    match read_inputs(alloc, inventory.as_slice(), playbook.as_slice()) {
+        Ok(inputs) => Ok(inputs),
+        Err(fault) => Err(Fault::from(fault)),
     }
 }
 

@@ -7,7 +7,7 @@ use Rattle.std.specs.Io.KnownBytes.{Keeps}
 use Rattle.domains.specs.FleetViews.{FleetView}
 use Rattle.host_vars.specs.declared.vars.Vars.{Vars}
 use Rattle.host_track.specs.Endings.{Ending}
-use Rattle.plan_command.specs.PlanTexts.{IsPlaybookFault}
+use Rattle.plan_command.specs.Inputs.{IsPlaybookFault}
 use Rattle.plan_command.specs.declared.fault.PlanFault.{PlanFault}
 use Rattle.json_output.specs.declared.form.Form.{Form}
 use Rattle.play_model.specs.declared.play.Play.{Play}

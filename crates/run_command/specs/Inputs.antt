@@ -11,7 +11,7 @@ use Rattle.host_vars.specs.declared.vars.Vars.{Vars}
 use Rattle.host_vars.specs.HostVars.{HasNoResult, variables_of}
 use Rattle.play_model.specs.declared.play.Play.{Play}
 use Rattle.play_forecast.specs.PlayPlans.{targets}
-use Rattle.plan_command.specs.PlanTexts.{ArePlaysIn, IsRefusedAfter, IsUnread}
+use Rattle.plan_command.specs.Inputs.{ArePlaysIn, IsRefusedAfter, IsUnread}
 use Rattle.run_command.specs.declared.fault.RunTextFault.{RunTextFault}
 use Rattle.run_command.specs.declared.fault.RunTextFault.TheVariants.{Refused, Memory, Broken, Write}
 

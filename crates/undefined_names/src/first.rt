@@ -1,8 +1,8 @@
 //! From the bytes of an inventory and a playbook to the first name that a step may look up in vain.
 ghost use Rattle.std.specs.Prelude.{◌≡◌, ◌≤◌, All, IfErr, IfOk, length};
 ghost use Rattle.host_vars.specs.HostVars.{HasNoResult};
+ghost use Rattle.plan_command.specs.Inputs.{IsRefused};
 ghost use Rattle.command_preview.specs.Inside.{views_of};
-ghost use Rattle.command_preview.specs.WordTexts.{IsRefused};
 ghost use Rattle.undefined_names.specs.NoValues as spec;
 ghost use Rattle.undefined_names.specs.NoValues.{IsFirstMiss, Tells, TellsFirst, miss_seen, misses_of_plays};
 

@@ -11,6 +11,7 @@ use crate::system::System;
 use bounded_io::Input;
 use command_line::Source;
 use plan_check::check_text;
+use plan_command::read_inputs;
 use std::alloc::Global;
 use std::io::Write;
 
@@ -52,7 +53,11 @@ fn print_check<W: Write>(
     ensures ok { IfOk result (PrintsCheck inventory.now playbook.now plan.now (W.contents out.old) (W.contents out.new)) }
     ensures err { IfErr result (RefusesCheck inventory.now playbook.now plan.now (W.contents out.old) (W.contents out.new)) }
 {
-    match check_text(alloc, inventory, playbook, plan, out) {
+    let inputs = match read_inputs(alloc, inventory, playbook) {
+        Ok(inputs) => inputs,
+        Err(fault) => return Err(Fault::from(fault)),
+    };
+    match check_text(alloc, &inputs, plan, out) {
         Ok(end) => Ok(Status::from(end)),
         Err(fault) => Err(Fault::from(fault)),
     }

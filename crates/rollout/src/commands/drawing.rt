@@ -1,6 +1,5 @@
 //! The picture that a plan is asked for.
-ghost use Rattle.std.specs.Prelude.{◌≡◌, Err, IfErr, IfOk, length, map};
-ghost use Rattle.std.specs.Result.{ForErr};
+ghost use Rattle.std.specs.Prelude.{◌≡◌, IfErr, IfOk, map};
 ghost use Rattle.bounded_io.specs.Sending.{SendsText};
 ghost use Rattle.domains.specs.Ids.{group_numbers};
 ghost use Rattle.batch_plan.specs.Counts.{limited_groups};
@@ -12,64 +11,15 @@ ghost use Rattle.rollout.specs.Pictures.{IsOfPicture, boundaries_of};
 use crate::fault::Fault;
 use crate::system::System;
 use bounded_io::{InputFault, TextWriter, WriteFault};
-use command_line::{Options, Source};
+use command_line::Source;
 use domains::Fleet;
 use forecast_svg::{Picture, list_limited, write_picture};
 use group_tree::GroupId;
-use plan_command::{read_fleet, read_known_plays};
+use plan_command::Inputs;
 use play_forecast::Boundary;
-use rehearse::{PlayCourse, foresee};
+use rehearse::{PlayCourse, foresee_inputs};
 use std::alloc::{AllocError, Global};
 use std::io::Write;
-
-/// The names of the hosts that fail in the course.
-fn failing_of(wishes: &Options) -> &str {
-    match &wishes.forecast {
-        Some(failing) => failing.as_str(),
-        None => "",
-    }
-}
-
-/// The picture of a plan's course, if one is asked for, and why it could not be drawn.
-#[derive(Drop)]
-pub struct Drawing<'s, 'w, S> {
-    system: &'s S,
-    wishes: &'w Options,
-    outcome: Result<(), Fault>,
-    ghost told: { ForErr outcome IsOfPicture },
-}
-
-impl<'s, 'w, S: System> Drawing<'s, 'w, S> {
-    pub fn new(system: &'s S, wishes: &'w Options) -> Drawing<'s, 'w, S> {
-        Drawing {
-            system,
-            wishes,
-            outcome: Ok(()),
-        }
-    }
-
-    /// Draws the course of two texts that were accepted, where a file is named.
-    pub(crate) fn draw(&mut self, alloc: Global, inventory: &[u8], playbook: &[u8]) {
-        if let Some(name) = &self.wishes.picture {
-            let failing = failing_of(self.wishes);
-            self.outcome = draw(
-                self.system,
-                alloc,
-                name.as_str(),
-                failing,
-                inventory,
-                playbook,
-            );
-        }
-    }
-
-    /// Whether nothing was to be drawn, or it was; or why it wasn't.
-    pub fn outcome(self) -> Result<(), Fault>
-        ensures { IfErr result IsOfPicture }
-    {
-        self.outcome
-    }
-}
 
 /// The boundaries of each course.
 fn list_boundaries(alloc: Global, courses: &[PlayCourse]) -> Result<Vec<&[Boundary]>, AllocError>
@@ -105,35 +55,37 @@ fn send_picture<W: Write>(
     send(&picture, out)
 }
 
-/// Writes the picture of the course of two texts into the file of this name.
-fn draw<S: System>(
+/// Writes the picture of the course in which just the named hosts fail, or nobody does, into the file of this name.
+pub(crate) fn draw<S: System>(
     system: &S,
     alloc: Global,
     name: &str,
-    failing: &str,
-    inventory: &[u8],
-    playbook: &[u8],
+    inputs: &Inputs,
+    failing: &Option<String>,
 ) -> Result<(), Fault>
     ensures { IfErr result IsOfPicture }
 {
-    // Both were accepted once: only memory may be wanting.
-    let Ok(fleet) = read_fleet(alloc, inventory) else {
+    let failing = match failing {
+        Some(failing) => failing.as_str(),
+        None => "",
+    };
+    // The names were looked up for what was printed: only memory may be wanting.
+    let Ok(forecast) = foresee_inputs(alloc, inputs, failing) else {
         return Err(Fault::Memory);
     };
-    let Ok(plays) = read_known_plays(alloc, &fleet, playbook) else {
-        return Err(Fault::Memory);
-    };
-    let Ok(courses) = foresee(alloc, &fleet, plays.as_slice(), failing) else {
-        return Err(Fault::Memory);
-    };
-    let groups = list_limited(alloc, &fleet)?;
-    let lists = list_boundaries(alloc, courses.as_slice())?;
+    let groups = list_limited(alloc, &inputs.fleet)?;
+    let lists = list_boundaries(alloc, forecast.courses.as_slice())?;
     let Ok(mut file) = system.write_to(name) else {
         let source = Source::File(String::from_str(alloc, name)?);
         let fault = InputFault::File;
         return Err(Fault::Input { source, fault });
     };
-    match send_picture(&fleet, groups.as_slice(), lists.as_slice(), &mut file) {
+    match send_picture(
+        &inputs.fleet,
+        groups.as_slice(),
+        lists.as_slice(),
+        &mut file,
+    ) {
         Ok(()) => Ok(()),
         Err(fault) => Err(Fault::Write(fault)),
     }

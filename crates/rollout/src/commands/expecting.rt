@@ -2,13 +2,13 @@
 ghost use Rattle.std.specs.Prelude.{◌≡◌, IfErr, IfOk, None, Some, ⊤};
 ghost use Rattle.expectations.specs.Lists.{expectations_in};
 ghost use Rattle.expectations.specs.Shown.{all_shown};
-ghost use Rattle.rollout.specs.Expecting.{ExpectsPlan, ExpectsTable, PrintsPlan, PrintsTable, RefusesPlan, RefusesTable};
+ghost use Rattle.rollout.specs.Expecting.{ExpectsPlan, ExpectsTable, PrintsPlan, PrintsTable, RefusesTable};
 ghost use Rattle.rollout.specs.Lists.{IsBadList};
 ghost use Rattle.rollout.specs.Systems.{sources_of};
 
-use crate::commands::plan::report_behind;
+use crate::commands::plan::report_left_out;
 use crate::fault::Fault;
-use crate::inputs::read_both;
+use crate::inputs::read_plays;
 use crate::list::bad_list;
 use crate::source::read_source;
 use crate::status::Status;
@@ -16,6 +16,7 @@ use crate::system::System;
 use bounded_io::Input;
 use command_line::Source;
 use expectations::{Expectation, ListFault, expected_limits, expected_plan, read_expectations};
+use plan_command::{Inputs, read_fleet};
 use roll_core::Observer;
 use std::alloc::Global;
 use std::io::Write;
@@ -63,7 +64,11 @@ fn print_limits<W: Write>(
     ensures ok { IfOk result (PrintsTable inventory.now (all_shown expected.now) (W.contents out.old) (W.contents out.new)) }
     ensures err { IfErr result (RefusesTable inventory.now (all_shown expected.now) (W.contents out.old) (W.contents out.new)) }
 {
-    match expected_limits(alloc, inventory, expected, out) {
+    let fleet = match read_fleet(alloc, inventory) {
+        Ok(fleet) => fleet,
+        Err(fault) => return Err(Fault::from(fault)),
+    };
+    match expected_limits(alloc, &fleet, expected, out) {
         Ok(()) => Ok(Status::Done),
         Err(fault) => Err(Fault::from(fault)),
     }
@@ -72,6 +77,7 @@ fn print_limits<W: Write>(
 /// Reads the inventory and the playbook, and writes the plan of the playbook's first play; then the first number that isn't as the list says is told. The list is read first. `watch` is
 /// told of the hosts that the plan leaves out.
 #[allow(clippy::too_many_arguments)]
+#[tactic(auto, using(crate::proofs::OverTexts::over_inputs))]
 pub fn plan_expecting<S: System, T: Observer, I: Input, W: Write>(
     system: &S,
     alloc: Global,
@@ -89,31 +95,27 @@ pub fn plan_expecting<S: System, T: Observer, I: Input, W: Write>(
         Ok(expected) => expected,
         Err(fault) => return Err(fault),
     };
-    match read_both(system, alloc, inventory, playbook, input) {
-        Ok((inventory, playbook)) => {
-            let inventory = inventory.as_slice();
-            let playbook = playbook.as_slice();
-            let printed = print_plan(alloc, inventory, playbook, expected.as_slice(), out);
-            if printed.is_ok() {
-                report_behind(alloc, watch, 1, inventory, playbook);
-            }
-            printed
-        }
-        Err(fault) => Err(fault),
+    let inputs = match read_plays(system, alloc, inventory, playbook, input) {
+        Ok(inputs) => inputs,
+        Err(fault) => return Err(fault),
+    };
+    let printed = print_plan(alloc, &inputs, expected.as_slice(), out);
+    if printed.is_ok() {
+        let plays = inputs.plays.as_slice();
+        report_left_out(alloc, watch, 1, &inputs.fleet, plays);
     }
+    printed
 }
 
 fn print_plan<W: Write>(
     alloc: Global,
-    inventory: &[u8],
-    playbook: &[u8],
+    inputs: &Inputs,
     expected: &[Expectation<'_>],
     out: &mut W,
 ) -> Result<Status, Fault>
-    ensures ok { IfOk result (PrintsPlan inventory.now playbook.now (all_shown expected.now) (W.contents out.old) (W.contents out.new)) }
-    ensures err { IfErr result (RefusesPlan inventory.now playbook.now (all_shown expected.now) (W.contents out.old) (W.contents out.new)) }
+    ensures { PrintsPlan (all_shown expected.now) inputs.now.fleet inputs.now.plays.items (W.contents out.old) (W.contents out.new) result }
 {
-    match expected_plan(alloc, inventory, playbook, expected, out) {
+    match expected_plan(alloc, inputs, expected, out) {
         Ok(end) => Ok(Status::from(end)),
         Err(fault) => Err(Fault::from(fault)),
     }

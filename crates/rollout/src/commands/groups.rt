@@ -1,86 +1,91 @@
-//! The command `plan`, asked for the groups too: from the files of an inventory and a playbook to the plan or the course, with how full each group is while each batch runs.
-ghost use Rattle.std.specs.Prelude.{IfOk, IfErr, string_bytes};
+//! The command `plan`, asked for the groups too: the plan or the course, with how full each group is while each batch runs.
+ghost use Rattle.std.specs.Prelude.{string_bytes};
 ghost use Rattle.std.specs.Option.{option_map};
-ghost use Rattle.rollout.specs.Groups.{IsPaintOf, PrintsGroups, RefusesGroups, SurveysIn};
-ghost use Rattle.rollout.specs.Systems.{sources_of};
+ghost use Rattle.domains.specs.FleetViews.{IsSound};
+ghost use Rattle.plan_occupancy.specs.CourseSurveys.{IsSurveyedCourse};
+ghost use Rattle.plan_occupancy.specs.PlanSurveys.{IsSurveyedPlan};
+ghost use Rattle.rollout.specs.Groups.{IsPaintOf, PrintsGroups, SurveysIn};
+ghost use Rattle.rollout.specs.Printed.{PrintsCourse, PrintsText};
+ghost use Rattle.rollout.specs.Status.{status_of_end};
 
-use crate::commands::drawing::Drawing;
-use crate::commands::plan::report_behind;
 use crate::fault::Fault;
-use crate::inputs::read_both;
 use crate::status::Status;
 use crate::system::System;
-use bounded_io::Input;
-use command_line::{Options, Source};
+use command_line::Options;
 use occupancy_table::ColorMode;
+use plan_command::Inputs;
 use plan_occupancy::{surveyed_course, surveyed_plan};
-use roll_core::Observer;
+use rehearse::foresee_inputs;
 use std::alloc::Global;
 use std::io::Write;
 
-/// Reads the inventory and the playbook, and writes the plan of the first play, or the course of all where the names of the hosts that fail in it are given, each play with its
-/// groups, those that are full in colours where it is asked for. `watch` is told of the hosts that are left out.
-#[allow(clippy::too_many_arguments)]
-pub fn groups<S: System, T: Observer, I: Input, W: Write>(
+/// Writes the plan of the first play, or the course of all where the names of the hosts that fail in it are given, each play with its groups, those that are full in colours where it
+/// is asked for.
+pub(crate) fn print_groups<S: System, W: Write>(
     system: &S,
     alloc: Global,
-    watch: &mut T,
-    drawing: &mut Drawing<'_, '_, S>,
-    inventory: Source,
-    playbook: Source,
+    inputs: &Inputs,
     wishes: &Options,
-    input: &mut I,
     out: &mut W,
 ) -> Result<Status, Fault>
-    ensures { SurveysIn (option_map string_bytes wishes.now.color) (option_map string_bytes wishes.now.forecast) (sources_of (S.known system.now) (I.is_reliable input.old)) inventory playbook
-        (I.remaining input.old) (I.remaining input.new) (W.contents out.old) (W.contents out.new) result }
+    requires sound { IsSound inputs.now.fleet }
+    ensures { SurveysIn (option_map string_bytes wishes.now.color) (option_map string_bytes wishes.now.forecast) inputs.now.fleet inputs.now.plays.items
+        (W.contents out.old) (W.contents out.new) result }
 {
     let paint = paint_of(system, &wishes.color);
-    let failing = &wishes.forecast;
-    match read_both(system, alloc, inventory, playbook, input) {
-        Ok((inventory, playbook)) => {
-            let inventory = inventory.as_slice();
-            let playbook = playbook.as_slice();
-            let printed = print_groups(alloc, inventory, playbook, failing, paint, out);
-            if printed.is_ok() {
-                let plays = if failing.is_some() { usize::MAX } else { 1 };
-                report_behind(alloc, watch, plays, inventory, playbook);
-                drawing.draw(alloc, inventory, playbook);
-            }
-            printed
-        }
-        Err(fault) => Err(fault),
-    }
+    print_painted(alloc, inputs, &wishes.forecast, paint, out)
 }
 
-/// Writes the plan or the course of the two texts, with the groups. The status is that of the plan or the course.
-fn print_groups<W: Write>(
+fn print_painted<W: Write>(
     alloc: Global,
-    inventory: &[u8],
-    playbook: &[u8],
+    inputs: &Inputs,
     failing: &Option<String>,
     paint: ColorMode,
     out: &mut W,
 ) -> Result<Status, Fault>
-    ensures ok { IfOk result (PrintsGroups paint (option_map string_bytes failing.now) inventory.now playbook.now (W.contents out.old) (W.contents out.new)) }
-    ensures err { IfErr result (RefusesGroups paint (option_map string_bytes failing.now) inventory.now playbook.now (W.contents out.old) (W.contents out.new)) }
+    requires sound { IsSound inputs.now.fleet }
+    ensures { PrintsGroups paint (option_map string_bytes failing.now) inputs.now.fleet inputs.now.plays.items (W.contents out.old) (W.contents out.new) result }
 {
     match failing {
-        Some(failing) => match surveyed_course(
-            alloc,
-            inventory,
-            playbook,
-            failing.as_str(),
-            paint,
-            out,
-        ) {
-            Ok(end) => Ok(Status::from(end)),
-            Err(fault) => Err(Fault::from(fault)),
-        },
-        None => match surveyed_plan(alloc, inventory, playbook, paint, out) {
-            Ok(end) => Ok(Status::from(end)),
-            Err(fault) => Err(Fault::from(fault)),
-        },
+        Some(failing) => print_course(alloc, inputs, failing.as_str(), paint, out),
+        None => print_plan(alloc, inputs, paint, out),
+    }
+}
+
+/// Writes the plan with the groups. The status is that of the plan.
+fn print_plan<W: Write>(
+    alloc: Global,
+    inputs: &Inputs,
+    paint: ColorMode,
+    out: &mut W,
+) -> Result<Status, Fault>
+    ensures { PrintsText (IsSurveyedPlan paint inputs.now.fleet inputs.now.plays.items) status_of_end (W.contents out.old) (W.contents out.new) result }
+{
+    match surveyed_plan(alloc, inputs, paint, out) {
+        Ok(end) => Ok(Status::from(end)),
+        Err(fault) => Err(Fault::from(fault)),
+    }
+}
+
+/// Writes the course with the groups of each play. The status is that of the course.
+#[tactic(auto, using(crate::proofs::Courses::course_shown, crate::proofs::Courses::course_lost))]
+fn print_course<W: Write>(
+    alloc: Global,
+    inputs: &Inputs,
+    failing: &str,
+    paint: ColorMode,
+    out: &mut W,
+) -> Result<Status, Fault>
+    requires sound { IsSound inputs.now.fleet }
+    ensures { PrintsCourse (IsSurveyedCourse paint) failing.now inputs.now.fleet inputs.now.plays.items (W.contents out.old) (W.contents out.new) result }
+{
+    let forecast = match foresee_inputs(alloc, inputs, failing) {
+        Ok(forecast) => forecast,
+        Err(fault) => return Err(Fault::Pattern(fault)),
+    };
+    match surveyed_course(alloc, inputs, &forecast, paint, out) {
+        Ok(end) => Ok(Status::from(end)),
+        Err(fault) => Err(Fault::from(fault)),
     }
 }
 

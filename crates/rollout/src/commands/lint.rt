@@ -17,9 +17,8 @@ use crate::system::System;
 use bounded_io::Input;
 use command_line::Source;
 use inventory_lints::Texts;
-use lint_command::{lint_fleet_text, lint_text};
+use lint_command::{LintFault, lint_fleet_text, lint_text};
 use lint_rules::{Allowed, read_allowed};
-use plan_command::PlanFault;
 use std::alloc::Global;
 use std::io::Write;
 
@@ -142,11 +141,11 @@ fn print_on_both<W: Write>(
 }
 
 /// Whether notes broke off.
-fn is_lost(refused: &PlanFault) -> bool
+fn is_lost(refused: &LintFault) -> bool
     ensures { result ≡ spec.is_lost refused.now }
 {
     match refused {
-        PlanFault::Write(_) => true,
+        LintFault::Write(_) => true,
         _ => false,
     }
 }
@@ -156,7 +155,7 @@ fn print_instead<W: Write>(
     alloc: Global,
     inventory: &[u8],
     playbook: Option<&[u8]>,
-    refused: PlanFault,
+    refused: LintFault,
     out: &mut W,
 ) -> Result<Status, Fault>
     ensures { TellsInstead inventory.now (option_map (λ text. text.now) playbook.entry) (W.contents out.old) (W.contents out.new) refused result }

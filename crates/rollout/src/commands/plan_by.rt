@@ -1,88 +1,69 @@
 //! The command `plan`, as it is asked for: a plan or a course, with its groups or without them, and its picture.
-ghost use Rattle.std.specs.Prelude.{◌≡◌, Err, IfErr, IfOk, OnOk, string_bytes};
+ghost use Rattle.std.specs.Prelude.{string_bytes};
 ghost use Rattle.std.specs.Option.{option_map};
-ghost use Rattle.rollout.specs.Courses.{PlansOrForesees};
+ghost use Rattle.domains.specs.FleetViews.{IsSound};
 ghost use Rattle.rollout.specs.Groups.{PlansBy};
-ghost use Rattle.rollout.specs.Pictures.{PlansDrawn};
+ghost use Rattle.rollout.specs.Pictures.{IsDrawnBehind, PlansDrawn};
+ghost use Rattle.rollout.specs.Plans.{PlansOrForesees};
 ghost use Rattle.rollout.specs.Systems.{sources_of};
 
-use crate::commands::course::course;
-use crate::commands::drawing::Drawing;
-use crate::commands::groups::groups;
-use crate::commands::plan::plan;
+use crate::commands::course::print_course;
+use crate::commands::drawing::draw;
+use crate::commands::groups::print_groups;
+use crate::commands::plan::{print_plan, report_left_out};
 use crate::fault::Fault;
+use crate::inputs::read_plays;
 use crate::status::Status;
 use crate::system::System;
 use bounded_io::Input;
 use command_line::{Options, Source};
+use plan_command::Inputs;
 use roll_core::Observer;
 use std::alloc::Global;
 use std::io::Write;
 
-/// Does what a line of `plan` asks for: the plan, or the course where hosts to fail are given, be it nobody.
-#[allow(clippy::too_many_arguments)]
-fn plan_or_course<S: System, T: Observer, I: Input, O: Write>(
-    system: &S,
+/// The plan, or the course where hosts to fail are given, be it nobody.
+fn print_plain<W: Write>(
     alloc: Global,
-    watch: &mut T,
-    drawing: &mut Drawing<'_, '_, S>,
-    inventory: Source,
-    playbook: Source,
+    inputs: &Inputs,
     failing: &Option<String>,
-    input: &mut I,
-    out: &mut O,
+    out: &mut W,
 ) -> Result<Status, Fault>
-    ensures { PlansOrForesees (option_map string_bytes failing.now) (sources_of (S.known system.now) (I.is_reliable input.old)) inventory playbook
-        (I.remaining input.old) (I.remaining input.new) (O.contents out.old) (O.contents out.new) result }
+    ensures { PlansOrForesees (option_map string_bytes failing.now) inputs.now.fleet inputs.now.plays.items (W.contents out.old) (W.contents out.new) result }
 {
     match failing {
-        Some(failing) => course(
-            system,
-            alloc,
-            watch,
-            drawing,
-            inventory,
-            playbook,
-            failing.as_str(),
-            input,
-            out,
-        ),
-        None => plan(
-            system, alloc, watch, drawing, inventory, playbook, input, out,
-        ),
+        Some(failing) => print_course(alloc, inputs, failing.as_str(), out),
+        None => print_plan(alloc, inputs, out),
     }
 }
 
-/// Does what a line of `plan` asks for but for its picture: with the groups, where it is asked for them.
-#[allow(clippy::too_many_arguments)]
-fn print_plan<S: System, T: Observer, I: Input, O: Write>(
+/// The same, with the groups where it is asked for them.
+fn print_by<S: System, W: Write>(
     system: &S,
     alloc: Global,
-    watch: &mut T,
-    drawing: &mut Drawing<'_, '_, S>,
-    inventory: Source,
-    playbook: Source,
+    inputs: &Inputs,
     wishes: &Options,
-    input: &mut I,
-    out: &mut O,
+    out: &mut W,
 ) -> Result<Status, Fault>
-    ensures { PlansBy wishes.now.is_grouped (option_map string_bytes wishes.now.color) (option_map string_bytes wishes.now.forecast) (sources_of (S.known system.now) (I.is_reliable input.old)) inventory playbook
-        (I.remaining input.old) (I.remaining input.new) (O.contents out.old) (O.contents out.new) result }
+    requires sound { IsSound inputs.now.fleet }
+    ensures { PlansBy wishes.now.is_grouped (option_map string_bytes wishes.now.color) (option_map string_bytes wishes.now.forecast) inputs.now.fleet inputs.now.plays.items
+        (W.contents out.old) (W.contents out.new) result }
 {
-    let course = &wishes.forecast;
     if wishes.is_grouped {
-        groups(
-            system, alloc, watch, drawing, inventory, playbook, wishes, input, out,
-        )
+        print_groups(system, alloc, inputs, wishes, out)
     } else {
-        plan_or_course(
-            system, alloc, watch, drawing, inventory, playbook, course, input, out,
-        )
+        print_plain(alloc, inputs, &wishes.forecast, out)
     }
 }
 
-/// Does what a line of `plan` asks for, and draws its picture behind that, where it is asked for one.
+/// Of how many plays, from the first on, the hosts are told that are left out.
+pub(crate) fn plays_told(failing: &Option<String>) -> usize {
+    if failing.is_some() { usize::MAX } else { 1 }
+}
+
+/// Reads the inventory and the playbook, does what a line of `plan` asks for, and behind that draws its picture, where it is asked for one. `watch` is told of the hosts that are left out.
 #[allow(clippy::too_many_arguments)]
+#[tactic(auto, using(crate::proofs::OverTexts::over_inputs, crate::proofs::Drawing::drawn_so))]
 pub fn plan_by<S: System, T: Observer, I: Input, O: Write>(
     system: &S,
     alloc: Global,
@@ -96,32 +77,38 @@ pub fn plan_by<S: System, T: Observer, I: Input, O: Write>(
     ensures { PlansDrawn (option_map string_bytes wishes.now.picture) wishes.now.is_grouped (option_map string_bytes wishes.now.color) (option_map string_bytes wishes.now.forecast) (sources_of (S.known system.now) (I.is_reliable input.old)) inventory playbook
         (I.remaining input.old) (I.remaining input.new) (O.contents out.old) (O.contents out.new) result }
 {
-    let mut drawing = Drawing::new(system, wishes);
-    let printed = print_plan(
-        system,
-        alloc,
-        watch,
-        &mut drawing,
-        inventory,
-        playbook,
-        wishes,
-        input,
-        out,
-    );
+    let inputs = match read_plays(system, alloc, inventory, playbook, input) {
+        Ok(inputs) => inputs,
+        Err(fault) => return Err(fault),
+    };
+    let failing = &wishes.forecast;
+    let printed = print_by(system, alloc, &inputs, wishes, out);
+    if printed.is_ok() {
+        let plays = inputs.plays.as_slice();
+        report_left_out(alloc, watch, plays_told(failing), &inputs.fleet, plays);
+    }
     match &wishes.picture {
-        Some(_file) => drawn(printed, drawing.outcome()),
+        Some(file) => draw_behind(system, alloc, file.as_str(), &inputs, failing, printed),
         None => printed,
     }
 }
 
-/// How a plan ends that was printed so, and behind which its picture was drawn or not.
-fn drawn(printed: Result<Status, Fault>, drawn: Result<(), Fault>) -> Result<Status, Fault>
-    ensures ok { OnOk drawn (result ≡ printed) }
-    ensures lost { IfErr drawn (λ fault. IfOk printed (λ _. result ≡ Err fault)) }
-    ensures err { IfErr printed (λ fault. result ≡ Err fault) }
+/// How a plan ends that was printed so, and behind which its picture is drawn or not.
+fn draw_behind<S: System>(
+    system: &S,
+    alloc: Global,
+    file: &str,
+    inputs: &Inputs,
+    failing: &Option<String>,
+    printed: Result<Status, Fault>,
+) -> Result<Status, Fault>
+    ensures { IsDrawnBehind printed result }
 {
-    match (printed, drawn) {
-        (Ok(_), Err(fault)) => Err(fault),
-        (printed, _) => printed,
+    match printed {
+        Ok(status) => match draw(system, alloc, file, inputs, failing) {
+            Ok(()) => Ok(status),
+            Err(fault) => Err(fault),
+        },
+        Err(fault) => Err(fault),
     }
 }

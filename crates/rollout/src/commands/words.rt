@@ -3,14 +3,14 @@ ghost use Rattle.std.specs.Prelude.{IfErr, IfOk};
 ghost use Rattle.rollout.specs.WordTexts.{PrintsWords, RefusesWords, TellsWords};
 ghost use Rattle.rollout.specs.Systems.{sources_of};
 
-use crate::commands::plan::report_behind;
+use crate::commands::plan::report_left_out;
 use crate::fault::Fault;
 use crate::inputs::read_both;
 use crate::status::Status;
 use crate::system::System;
 use bounded_io::Input;
 use command_line::Source;
-use command_preview::words_text;
+use command_preview::{read_inputs, words_text};
 use roll_core::Observer;
 use std::alloc::Global;
 use std::io::Write;
@@ -30,22 +30,21 @@ pub fn words<S: System, T: Observer, I: Input, W: Write>(
         (W.contents out.old) (W.contents out.new) result }
 {
     match read_both(system, alloc, inventory, playbook, input) {
-        Ok((inventory, playbook)) => {
-            let inventory = inventory.as_slice();
-            let playbook = playbook.as_slice();
-            let printed = print_words(alloc, inventory, playbook, out);
-            if printed.is_ok() {
-                report_behind(alloc, watch, usize::MAX, inventory, playbook);
-            }
-            printed
-        }
+        Ok((inventory, playbook)) => print_words(
+            alloc,
+            watch,
+            inventory.as_slice(),
+            playbook.as_slice(),
+            out,
+        ),
         Err(fault) => Err(fault),
     }
 }
 
 /// Writes the words of the two texts. The status tells whether a step is sure to fail, or a word too long.
-fn print_words<W: Write>(
+fn print_words<T: Observer, W: Write>(
     alloc: Global,
+    watch: &mut T,
     inventory: &[u8],
     playbook: &[u8],
     out: &mut W,
@@ -53,8 +52,16 @@ fn print_words<W: Write>(
     ensures ok { IfOk result (PrintsWords inventory.now playbook.now (W.contents out.old) (W.contents out.new)) }
     ensures err { IfErr result (RefusesWords inventory.now playbook.now (W.contents out.old) (W.contents out.new)) }
 {
-    match words_text(alloc, inventory, playbook, out) {
-        Ok(end) => Ok(Status::from(end)),
+    let inputs = match read_inputs(alloc, inventory, playbook) {
+        Ok(inputs) => inputs,
+        Err(fault) => return Err(Fault::from(fault)),
+    };
+    match words_text(alloc, &inputs, out) {
+        Ok(end) => {
+            let plays = inputs.plays.as_slice();
+            report_left_out(alloc, watch, usize::MAX, &inputs.fleet, plays);
+            Ok(Status::from(end))
+        }
         Err(fault) => Err(Fault::from(fault)),
     }
 }
